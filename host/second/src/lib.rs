@@ -1,0 +1,46 @@
+//! The independent second program: document 01 in plain Rust, to be read beside it.
+//!
+//! The modules follow the paper from top to bottom: [`class`] and [`markup`] hold
+//! "Bytes and spelling", [`tags`] and [`value`] take a well-formed page apart,
+//! [`table`] and [`rules`] hold "Elements and fields", [`page`] judges one page,
+//! [`join`] joins pages into a [`Plan`], [`layout`] knows where values lie,
+//! [`writer`] writes fresh pages, and [`collector`], [`cell`] and [`listing`] are
+//! what their names say. [`call`] is the form with lent rooms that gives refusal 1.
+
+pub mod call;
+pub mod cell;
+pub mod class;
+pub mod collector;
+pub mod join;
+pub mod layout;
+pub mod listing;
+pub mod markup;
+pub mod page;
+pub mod plan;
+pub mod rules;
+pub mod table;
+pub mod tags;
+pub mod value;
+pub mod writer;
+
+pub use collector::{Answer, Collector};
+pub use join::read;
+pub use layout::{lay, write_numbers};
+pub use listing::{listing, planlist, refusal_lines};
+pub use plan::{Head, Plan, Refusal, Row, RowKind, Values};
+pub use writer::{cut_exists, write};
+
+/// A call hands in 1 to 9 pages, and no plan has more.
+pub const MOST_PAGES: usize = 9;
+/// A page has 1 to 1,400 bytes.
+pub const PAGE_BYTES: usize = 1_400;
+/// A plan has at most 256 rows, and the caller lends room for as many.
+pub const MOST_ROWS: usize = 256;
+/// The text room when reading.
+pub const TEXT_ROOM: usize = 12_600;
+/// The page room when writing.
+pub const PAGE_ROOM: usize = 12_600;
+/// The room for a listing of pages.
+pub const LISTING_ROOM: usize = 25_200;
+/// The bytes that planlist reads at most.
+pub const INPUT_BYTES: usize = 12_609;
