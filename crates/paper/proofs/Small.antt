@@ -1,0 +1,76 @@
+-- Small facts on tests and lists.
+use mathlib.Core.Path.{_≡_, refl, ap, sym, _∙_}
+use mathlib.Core.Bool.{Bool, true, false, not, _&&_, _||_, and-eq-true-iff}
+use mathlib.Core.Logic.{_≢_}
+use mathlib.Core.List.{List, [], _∷_, _++_, append-assoc, append-nil}
+use Prim.Native.Nat.{ℕ, zero, suc, _+_, _*_, _-_, _≤_, _<_}
+use native.Mathlib.Omega.{arith}
+use lib.Dec.{eqb, leb, ltb}
+use borrow.Author.Tests.{eqb-true, eqb-false, eq-eqb, ne-eqb, leb-true, le-leb}
+use Rattle.paper.specs.Lists.{if, same, elem, twice, every, some-of, All}
+
+pub no : {A : Type 0} → true ≡ false → A
+no e = let y : _≡_ {A = ℕ} 0 1 = cc in absurd (omega arith)
+
+pub both : (a b : Bool) → a && b ≡ true → (a ≡ true) × (b ≡ true)
+both true b e = (refl, e)
+both false b e = no (sym e)
+
+pub neither : (a b : Bool) → a || b ≡ false → (a ≡ false) × (b ≡ false)
+neither true b e = no e
+neither false b e = (refl, e)
+
+pub no-not : (a : Bool) → not a ≡ true → a ≡ false
+no-not true e = sym e
+no-not false e = refl
+
+pub if-same : {A : Type 0} (b : Bool) (x : A) → if b x x ≡ x
+if-same true x = refl
+if-same false x = refl
+
+pub eqb-comm : (x y : ℕ) → eqb x y ≡ eqb y x
+eqb-comm x y = go (eqb x y) refl
+  where
+    go : (b : Bool) → eqb x y ≡ b → eqb x y ≡ eqb y x
+    go true e = rw (eqb-true x y e)
+    go false e = let ne = eqb-false x y e in e ∙ sym (ne-eqb y x (λ q. ne (sym q)))
+
+pub same-comm : (s t : List ℕ) → same s t ≡ same t s
+same-comm [] [] = refl
+same-comm [] (y ∷ t) = refl
+same-comm (x ∷ s) [] = refl
+same-comm (x ∷ s) (y ∷ t) = rw (eqb-comm x y, same-comm s t)
+
+pub same-self : (s : List ℕ) → same s s ≡ true
+same-self [] = refl
+same-self (x ∷ s) = rw (eq-eqb x x refl, same-self s)
+
+pub same-eq : (s t : List ℕ) → same s t ≡ true → s ≡ t
+same-eq [] [] e = refl
+same-eq [] (y ∷ t) e = no (sym e)
+same-eq (x ∷ s) [] e = no (sym e)
+same-eq (x ∷ s) (y ∷ t) e = let (a, b) = both (eqb x y) (same s t) e in rw (eqb-true x y a, same-eq s t b)
+
+pub every-append : (p : ℕ → Bool) (s t : List ℕ) → every p s ≡ true → every p t ≡ true → every p (s ++ t) ≡ true
+every-append p [] t a b = b
+every-append p (x ∷ s) t a b = let (c, d) = both (p x) (every p s) a in rw (c, every-append p s t d b)
+
+pub every-all : (p : ℕ → Bool) (s : List ℕ) → every p s ≡ true → All (λ c. p c ≡ true) s
+every-all p [] e = tt
+every-all p (x ∷ s) e = let (c, d) = both (p x) (every p s) e in (c, every-all p s d)
+
+pub and-intro : (a b : Bool) → a ≡ true → b ≡ true → a && b ≡ true
+and-intro a b e f = rw (e, f)
+
+-- a fact on every number below n, by computing
+abbrev pub below : ℕ → (ℕ → Bool) → Bool
+below zero p = true
+below (suc n) p = p n && below n p
+
+pub below-at : (n : ℕ) (p : ℕ → Bool) → below n p ≡ true → (k : ℕ) → k < n → p k ≡ true
+below-at zero p e k h = absurd (omega arith)
+below-at (suc n) p e k h = let (x, y) = both (p n) (below n p) e in at (eqb k n) refl x (below-at n p y k)
+  where
+    at : (b : Bool) → eqb k n ≡ b → p n ≡ true → (k < n → p k ≡ true) → p k ≡ true
+    at true q x ih = rw (eqb-true k n q) x
+    at false q x ih = let ne : k ≢ n = eqb-false k n q in ih (omega arith)

@@ -1,0 +1,104 @@
+-- Collecting: document 01, "Refusal numbers and their order", last paragraph. The collector of single pages, as a state and what is asked of it.
+-- Assumes nothing.
+use mathlib.Core.Bool.{Bool, true, false, not, _&&_}
+use mathlib.Core.List.{List, [], _∷_, _++_}
+use Prim.Native.Nat.{ℕ, zero, suc, _+_, _^_}
+use lib.Dec.{eqb}
+use lib.ListN.{length}
+use Rattle.paper.specs.Lists.{if, same}
+use Rattle.paper.specs.Plan.{sameHead}
+use Rattle.paper.specs.Judging.{Sheet, Judged, refused, sheet, judge}
+use Rattle.paper.specs.Reading.{Answer, has, read}
+
+-- a page that the collector has taken: its bytes, and what it says
+pub record Kept : Type 0 where
+  pub bytes : List ℕ
+  pub says : Sheet
+
+-- a collector is the pages it has taken, in the order they came
+abbrev pub Collector : Type 0
+Collector = List Kept
+
+-- "Clearing makes it empty."
+abbrev pub cleared : Collector
+cleared = []
+
+-- what is answered to a page: taken, "already here", or a refusal (number and place; the page is called page 1)
+pub data Added : Type 0 where
+  added alreadyHere : Added
+  refusedWith : ℕ → ℕ → Added
+
+-- the answer, and the collector afterwards
+pub record Adding : Type 0 where
+  pub answer : Added
+  pub after : Collector
+
+-- "A refusal changes … no collector", nor does "already here"
+abbrev pub unchanged : Added → Collector → Adding
+unchanged a c = record { answer = a; after = c }
+
+-- "then 9 against its first page": the same head and the same z, or no page yet
+abbrev pub agrees : Sheet → Collector → Bool
+agrees s [] = true
+agrees s (k ∷ c) = eqb (s .of) (k .says .of) && sameHead (s .head) (k .says .head)
+
+-- the bytes of the page of that number; none if there is no such page
+abbrev pub bytesAt : ℕ → Collector → List ℕ
+bytesAt n [] = []
+bytesAt n (k ∷ c) = if (eqb (k .says .no) n) (k .bytes) (bytesAt n c)
+
+-- what the pages say
+abbrev pub sheetsIn : Collector → List Sheet
+sheetsIn [] = []
+sheetsIn (k ∷ c) = k .says ∷ sheetsIn c
+
+-- the pages themselves
+abbrev pub pagesIn : Collector → List (List ℕ)
+pagesIn [] = []
+pagesIn (k ∷ c) = k .bytes ∷ pagesIn c
+
+-- "A page number it has is answered 'already here' if the bytes are equal, else 10."
+abbrev pub take-in : Collector → List ℕ → Sheet → Adding
+take-in c w s = if (not (agrees s c)) (unchanged (refusedWith 9 0) c)
+    (if (has (s .no) (sheetsIn c)) (if (same w (bytesAt (s .no) c)) (unchanged alreadyHere c) (unchanged (refusedWith 10 0) c))
+    (record { answer = added; after = c ++ record { bytes = w; says = s } ∷ [] }))
+
+-- by what judging the page gave
+abbrev pub add-judged : Collector → List ℕ → Judged → Adding
+add-judged c w (refused n i) = unchanged (refusedWith n i) c
+add-judged c w (sheet s) = take-in c w s
+
+-- "The collector takes one page": 2 to 8, then 9, then "already here" or 10, else the page is added
+unfoldable pub add : Collector → List ℕ → Adding
+add c w = add-judged c w (judge w)
+
+-- of the k numbers from n on, those that no page has
+abbrev pub without : List Sheet → ℕ → ℕ → List ℕ
+without l n zero = []
+without l n (suc k) = if (has n l) (without l (suc n) k) (n ∷ without l (suc n) k)
+
+-- "which of the z numbers are missing"; "empty, it reports none and 0"
+abbrev pub missingIn : List Sheet → List ℕ
+missingIn [] = []
+missingIn (s ∷ l) = without (s ∷ l) 1 (s .of)
+
+-- the missing numbers of a collector
+unfoldable pub missingNumbers : Collector → List ℕ
+missingNumbers c = missingIn (sheetsIn c)
+
+-- the numbers as a mask: bit n for page number n
+abbrev pub maskOf : List ℕ → ℕ
+maskOf [] = 0
+maskOf (n ∷ ns) = 2 ^ n + maskOf ns
+
+-- the mask of the missing numbers
+abbrev pub missingMask : Collector → ℕ
+missingMask c = maskOf (missingNumbers c)
+
+-- "and how many"
+abbrev pub missingCount : Collector → ℕ
+missingCount c = length (missingNumbers c)
+
+-- "Complete, it reads as the same pages handed in at once; incomplete, with 11; empty, with 1."
+unfoldable pub readCollected : Collector → Answer
+readCollected c = read (pagesIn c)

@@ -1,0 +1,186 @@
+-- Fields: document 01, "Elements and fields". The nine elements, and the one table of 52 fields in writing order.
+-- Assumes nothing.
+use mathlib.Core.Bool.{Bool, true, false, not, _&&_, _||_}
+use mathlib.Core.List.{List, [], _∷_, _++_}
+use Prim.Native.Nat.{ℕ, zero, suc, _+_, _*_, _-_, _≤_, _<_}
+use lib.Dec.{eqb, leb, ltb}
+use Rattle.paper.specs.Lists.{bytes, if, same}
+
+-- the nine elements, and any other
+pub data Kind : Type 0 where
+  unknown MP P A O S M W R X : Kind
+
+-- a number for each, to tell them apart
+abbrev pub code : Kind → ℕ
+code unknown = 0
+code MP = 1
+code P = 2
+code A = 3
+code O = 4
+code S = 5
+code M = 6
+code W = 7
+code R = 8
+code X = 9
+
+-- the two are the same kind
+abbrev pub is : Kind → Kind → Bool
+is a b = eqb (code a) (code b)
+
+-- an element's name in its tags
+abbrev pub tagName : Kind → List ℕ
+tagName unknown = []
+tagName MP = bytes "MP"
+tagName P = bytes "P"
+tagName A = bytes "A"
+tagName O = bytes "O"
+tagName S = bytes "S"
+tagName M = bytes "M"
+tagName W = bytes "W"
+tagName R = bytes "R"
+tagName X = bytes "X"
+
+-- "v* \"027\"": the edition that is read and written
+abbrev pub edition : List ℕ
+edition = bytes "027"
+
+-- what a field's value must be, beside its length and its line breaks
+pub data Rule : Type 0 where
+  text version digits hexes language pageNo birthday sex insured stamp one lines pzn code3 dose sign : Rule
+
+-- a field: its element, its letters, its rule, its least and greatest length, how many line breaks "~" it may have, and whether it is marked *
+pub record Field : Type 0 where
+  pub element : Kind
+  pub letters : List ℕ
+  pub rule : Rule
+  pub least : ℕ
+  pub most : ℕ
+  pub tildes : ℕ
+  pub must : Bool
+
+-- a line of the table
+abbrev pub field : Kind → List ℕ → Rule → ℕ → ℕ → ℕ → Bool → Field
+field e n r a b t m = record { element = e; letters = n; rule = r; least = a; most = b; tildes = t; must = m }
+
+-- MP
+abbrev pub mpFields : List Field
+mpFields =
+    field MP (bytes "v") version 3 3 0 true ∷ field MP (bytes "p") digits 1 2 0 false ∷ field MP (bytes "U") hexes 32 32 0 true
+    ∷ field MP (bytes "l") language 5 5 0 false ∷ field MP (bytes "a") pageNo 1 1 0 false ∷ field MP (bytes "z") pageNo 1 1 0 false ∷ []
+
+-- P
+abbrev pub pFields : List Field
+pFields =
+    field P (bytes "g") text 1 45 0 true ∷ field P (bytes "f") text 1 45 0 true ∷ field P (bytes "b") birthday 8 8 0 true ∷ field P (bytes "s") sex 1 1 0 false
+    ∷ field P (bytes "egk") insured 10 10 0 false ∷ field P (bytes "t") text 1 20 0 false ∷ field P (bytes "v") text 1 20 0 false ∷ field P (bytes "z") text 1 20 0 false ∷ []
+
+-- A
+abbrev pub aFields : List Field
+aFields =
+    field A (bytes "lanr") digits 9 9 0 false ∷ field A (bytes "idf") digits 7 7 0 false ∷ field A (bytes "kik") digits 9 9 0 false ∷ field A (bytes "n") text 1 50 0 true
+    ∷ field A (bytes "s") text 1 30 0 false ∷ field A (bytes "z") digits 5 5 0 false ∷ field A (bytes "c") text 1 20 0 false ∷ field A (bytes "p") text 1 20 0 false
+    ∷ field A (bytes "e") text 1 40 0 false ∷ field A (bytes "t") stamp 19 19 0 true ∷ []
+
+-- O
+abbrev pub oFields : List Field
+oFields =
+    field O (bytes "ai") text 1 50 0 false ∷ field O (bytes "w") digits 1 5 0 false ∷ field O (bytes "h") digits 1 3 0 false ∷ field O (bytes "c") text 1 5 0 false
+    ∷ field O (bytes "p") one 1 1 0 false ∷ field O (bytes "b") one 1 1 0 false ∷ field O (bytes "x") lines 1 77 2 false ∷ []
+
+-- S
+abbrev pub sFields : List Field
+sFields = field S (bytes "c") digits 3 3 0 false ∷ field S (bytes "t") text 1 50 0 false ∷ []
+
+-- M
+abbrev pub mFields : List Field
+mFields =
+    field M (bytes "p") pzn 1 8 0 false ∷ field M (bytes "a") text 1 50 0 false ∷ field M (bytes "f") code3 3 3 0 false ∷ field M (bytes "fd") text 1 7 0 false
+    ∷ field M (bytes "m") dose 1 4 0 false ∷ field M (bytes "d") dose 1 4 0 false ∷ field M (bytes "v") dose 1 4 0 false ∷ field M (bytes "h") dose 1 4 0 false
+    ∷ field M (bytes "t") text 1 20 0 false ∷ field M (bytes "du") sign 1 1 0 false ∷ field M (bytes "dud") text 2 20 0 false
+    ∷ field M (bytes "i") text 1 80 1 false ∷ field M (bytes "r") text 1 50 1 false ∷ field M (bytes "x") text 1 200 1 false ∷ []
+
+-- W
+abbrev pub wFields : List Field
+wFields = field W (bytes "w") text 1 80 0 true ∷ field W (bytes "s") text 1 15 0 false ∷ []
+
+-- R
+abbrev pub rFields : List Field
+rFields = field R (bytes "t") text 1 200 1 true ∷ field R (bytes "x") text 1 200 1 false ∷ []
+
+-- X
+abbrev pub xFields : List Field
+xFields = field X (bytes "t") text 1 200 1 true ∷ []
+
+-- the one table, in writing order
+abbrev pub table : List Field
+table = mpFields ++ (pFields ++ (aFields ++ (oFields ++ (sFields ++ (mFields ++ (wFields ++ (rFields ++ xFields)))))))
+
+-- the lines of one element
+abbrev pub only : Kind → List Field → List Field
+only k [] = []
+only k (f ∷ fs) = if (is (f .element) k) (f ∷ only k fs) (only k fs)
+
+-- the fields of an element, in writing order
+unfoldable pub fieldsOf : Kind → List Field
+fieldsOf k = only k table
+
+-- two fields that exclude each other
+abbrev pub Pair : Type 0
+Pair = List ℕ × List ℕ
+
+-- "Fields joined by 'or' above, and lanr, idf, kik, exclude each other … m, d, v, h each exclude t."
+abbrev pub excluded : Kind → List Pair
+excluded unknown = []
+excluded MP = []
+excluded P = []
+excluded A = (bytes "lanr", bytes "idf") ∷ (bytes "lanr", bytes "kik") ∷ (bytes "idf", bytes "kik") ∷ []
+excluded O = []
+excluded S = (bytes "c", bytes "t") ∷ []
+excluded M = (bytes "f", bytes "fd") ∷ (bytes "m", bytes "t") ∷ (bytes "d", bytes "t") ∷ (bytes "v", bytes "t") ∷ (bytes "h", bytes "t") ∷ (bytes "du", bytes "dud") ∷ []
+excluded W = []
+excluded R = []
+excluded X = []
+
+-- the kind of that name among these
+abbrev pub named : List ℕ → List Kind → Kind
+named n [] = unknown
+named n (k ∷ ks) = if (same n (tagName k)) k (named n ks)
+
+-- what an element may hold: "S holds M, R and X in any order. M holds up to three W."
+abbrev pub children : Kind → List Kind
+children unknown = []
+children MP = P ∷ A ∷ O ∷ S ∷ []
+children P = []
+children A = []
+children O = []
+children S = M ∷ R ∷ X ∷ []
+children M = W ∷ []
+children W = []
+children R = []
+children X = []
+
+-- how many of a kind its parent may have (0 is any number): one P, one A, "at most one O", "up to three W"
+abbrev pub most-of : Kind → ℕ
+most-of unknown = 0
+most-of MP = 0
+most-of P = 1
+most-of A = 1
+most-of O = 1
+most-of S = 0
+most-of M = 0
+most-of W = 3
+most-of R = 0
+most-of X = 0
+
+-- "Order inside MP: P, A, then at most one O, then any number of S": the kinds that are later than an element's own
+abbrev pub later : Kind → Kind → Bool
+later P k = is k A || is k O || is k S
+later A k = is k O || is k S
+later O k = is k S
+later unknown k = false
+later MP k = false
+later S k = false
+later M k = false
+later W k = false
+later R k = false
+later X k = false
