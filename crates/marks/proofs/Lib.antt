@@ -1,0 +1,2 @@
+pub mod ClassList
+pub mod ClassLaws
