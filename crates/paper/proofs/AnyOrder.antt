@@ -23,7 +23,7 @@ pub data Perm {A : Type 0} : List A → List A → Type 0 where
   swap : (x y : A) (l : List A) → Perm (x ∷ y ∷ l) (y ∷ x ∷ l)
   trans : {l m n : List A} → Perm l m → Perm m n → Perm l n
 
-perm-length : {A : Type 0} {l m : List A} → Perm l m → length l ≡ length m
+pub perm-length : {A : Type 0} {l m : List A} → Perm l m → length l ≡ length m
 perm-length nil = refl
 perm-length (skip x p) = ap suc (perm-length p)
 perm-length (swap x y l) = refl
@@ -51,7 +51,7 @@ head-eq a b e =
         → _≡_ {A = Head} (record { patch = p; ident = i; lang = l; person = x; author = y; measures = z }) (record { patch = p′; ident = i′; lang = l′; person = x′; author = y′; measures = z′ })
     make p p′ i i′ l l′ x x′ y y′ z z′ a b c d e f = rw (a, b, c, d, e, f)
 
-same-test : (t s : Sheet) → t .of ≡ s .of → t .head ≡ s .head → (eqb (t .of) (s .of) && sameHead (t .head) (s .head)) ≡ true
+pub same-test : (t s : Sheet) → t .of ≡ s .of → t .head ≡ s .head → (eqb (t .of) (s .of) && sameHead (t .head) (s .head)) ≡ true
 same-test t s p q = and-intro (eqb (t .of) (s .of)) (sameHead (t .head) (s .head)) (eq-eqb (t .of) (s .of) p) (ap (λ (h : Head). sameHead h (s .head)) q ∙ head-self (s .head))
 
 -- ---- what it takes to be accepted, whatever the order
@@ -83,7 +83,7 @@ other-alike s k (t ∷ l) h e = at (eqb (t .of) (s .of) && sameHead (t .head) (s
     at true x e ih = let (a, b) = both (eqb (t .of) (s .of)) (sameHead (t .head) (s .head)) x in (eqb-true (t .of) (s .of) a, head-eq (t .head) (s .head) b, ih e)
     at false x e ih = absurd (omega arith)
 
-alike-other : (s : Sheet) (z : ℕ) (h : Head) (k : ℕ) (l : List Sheet) → s .of ≡ z → s .head ≡ h → Alike z h l → other s k l ≡ 0
+pub alike-other : (s : Sheet) (z : ℕ) (h : Head) (k : ℕ) (l : List Sheet) → s .of ≡ z → s .head ≡ h → Alike z h l → other s k l ≡ 0
 alike-other s z h k [] p q a = refl
 alike-other s z h k (t ∷ l) p q a = rw (same-test t s (a .0 ∙ sym p) (a .1 ∙ sym q)) (alike-other s z h (suc k) l p q (a .2))
 
@@ -112,19 +112,19 @@ again-distinct was k (t ∷ l) h e = at (has (t .no) was) e (λ f. again-distinc
     at true e ih = absurd (omega arith)
     at false e ih = (again-fresh (t .no) (t ∷ was) (suc k) l (omega arith) self e, ih e)
 
-abbrev NoneIn : List Sheet → List Sheet → Type 0
+abbrev pub NoneIn : List Sheet → List Sheet → Type 0
 NoneIn was [] = Unit {0}
 NoneIn was (t ∷ l) = (has (t .no) was ≡ false) × NoneIn was l
 
-none-more : (t : Sheet) (was l : List Sheet) → NoneIn was l → has (t .no) l ≡ false → NoneIn (t ∷ was) l
+pub none-more : (t : Sheet) (was l : List Sheet) → NoneIn was l → has (t .no) l ≡ false → NoneIn (t ∷ was) l
 none-more t was [] n h = tt
 none-more t was (u ∷ l) n h = let (a, b) = neither (eqb (u .no) (t .no)) (has (t .no) l) h in (rw (eqb-comm (t .no) (u .no), a, n .0), none-more t was l (n .1) b)
 
-none-nil : (l : List Sheet) → NoneIn [] l
+pub none-nil : (l : List Sheet) → NoneIn [] l
 none-nil [] = tt
 none-nil (t ∷ l) = (refl, none-nil l)
 
-distinct-again : (was : List Sheet) (k : ℕ) (l : List Sheet) → NoneIn was l → Distinct l → again was k l ≡ 0
+pub distinct-again : (was : List Sheet) (k : ℕ) (l : List Sheet) → NoneIn was l → Distinct l → again was k l ≡ 0
 distinct-again was k [] n d = refl
 distinct-again was k (t ∷ l) n d = rw (n .0) (distinct-again (t ∷ was) (suc k) l (none-more t was l (n .1) (d .0)) (d .1))
 
@@ -205,7 +205,7 @@ accepted (s ∷ l) p a =
 
 -- ---- in another order
 
-perm-alike : (z : ℕ) (h : Head) {l m : List Sheet} → Perm l m → Alike z h l → Alike z h m
+pub perm-alike : (z : ℕ) (h : Head) {l m : List Sheet} → Perm l m → Alike z h l → Alike z h m
 perm-alike z h nil a = a
 perm-alike z h (skip x p) a = (a .0, a .1, perm-alike z h p (a .2))
 perm-alike z h (swap x y l) a = (a .2 .0, a .2 .1, (a .0, a .1, a .2 .2))
@@ -217,13 +217,13 @@ or-swap true false c = refl
 or-swap false true c = refl
 or-swap false false c = refl
 
-perm-has : (n : ℕ) {l m : List Sheet} → Perm l m → has n l ≡ has n m
+pub perm-has : (n : ℕ) {l m : List Sheet} → Perm l m → has n l ≡ has n m
 perm-has n nil = refl
 perm-has n (skip x p) = ap (λ (b : Bool). eqb (x .no) n || b) (perm-has n p)
 perm-has n (swap x y l) = or-swap (eqb (x .no) n) (eqb (y .no) n) (has n l)
 perm-has n (trans p q) = perm-has n p ∙ perm-has n q
 
-perm-distinct : {l m : List Sheet} → Perm l m → Distinct l → Distinct m
+pub perm-distinct : {l m : List Sheet} → Perm l m → Distinct l → Distinct m
 perm-distinct nil d = d
 perm-distinct (skip x p) d = (sym (perm-has (x .no) p) ∙ d .0, perm-distinct p (d .1))
 perm-distinct (swap x y l) d =
@@ -231,7 +231,7 @@ perm-distinct (swap x y l) d =
     (rw (eqb-comm (x .no) (y .no), a, d .1 .0), (b, d .1 .1))
 perm-distinct (trans p q) d = perm-distinct q (perm-distinct p d)
 
-perm-rows : (n : ℕ) {l m : List Sheet} → Perm l m → Distinct l → rowsAt n l ≡ rowsAt n m
+pub perm-rows : (n : ℕ) {l m : List Sheet} → Perm l m → Distinct l → rowsAt n l ≡ rowsAt n m
 perm-rows n nil d = refl
 perm-rows n (skip x p) d = ap (λ (r : List Row). if (eqb (x .no) n) (x .rows) r) (perm-rows n p (d .1))
 perm-rows n (swap x y l) d = at (eqb (x .no) n) refl (eqb (y .no) n) refl
@@ -246,7 +246,7 @@ perm-rows n (swap x y l) d = at (eqb (x .no) n) refl (eqb (y .no) n) refl
     at false e false f = refl
 perm-rows n (trans p q) d = perm-rows n p d ∙ perm-rows n q (perm-distinct p d)
 
-same-joined : (l m : List Sheet) → ((n : ℕ) → rowsAt n l ≡ rowsAt n m) → (k n : ℕ) → joined l n k ≡ joined m n k
+pub same-joined : (l m : List Sheet) → ((n : ℕ) → rowsAt n l ≡ rowsAt n m) → (k n : ℕ) → joined l n k ≡ joined m n k
 same-joined l m h zero n = refl
 same-joined l m h (suc k) n = rw (h n, same-joined l m h k (suc n))
 
@@ -295,7 +295,7 @@ judged-each k (w ∷ ws) p e = at (judge w) refl (judgeAll (suc k) ws) refl e
     at (sheet s) q (stopped n a i) r e = no (sym (ap isPlan e))
     at (sheet s) q (sheets m) r e = (s ∷ m, (q, all (suc k) ws m r))
 
-perm-each : {f g : List (List ℕ)} → Perm f g → (l : List Sheet) → Each f l → (m : List Sheet) × Each g m × Perm l m
+pub perm-each : {f g : List (List ℕ)} → Perm f g → (l : List Sheet) → Each f l → (m : List Sheet) × Each g m × Perm l m
 perm-each nil [] e = ([], tt, nil)
 perm-each nil (s ∷ l) e = absurd e
 perm-each (skip x p) [] e = absurd e

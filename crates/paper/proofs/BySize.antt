@@ -1,7 +1,6 @@
 -- BySize: the writer once more, with pages measured by adding up sizes instead of spelling them. `Same` proves it equal to `fresh`; the
 -- theorems on cuts are proved of this form.
 -- Assumes nothing.
-use mathlib.Core.Bool.{Bool, true, false}
 use mathlib.Core.Option.{Option, none, some}
 use mathlib.Core.List.{List, [], _∷_}
 use Prim.Native.Nat.{ℕ, suc, _+_}

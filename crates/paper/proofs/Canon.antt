@@ -1,18 +1,18 @@
 -- A number that keeps its field keeps it without its leading zeros too.
 use mathlib.Core.Path.{_≡_, refl, ap, sym, _∙_}
-use mathlib.Core.Bool.{Bool, true, false, not, _&&_, _||_}
+use mathlib.Core.Bool.{Bool, true, false, not, _&&_}
 use mathlib.Core.List.{List, [], _∷_, _++_, append-assoc, append-nil}
 use Prim.Native.Nat.{ℕ, zero, suc, _+_, _*_, _-_, _/_, _%_, _≤_, _<_}
 use native.Mathlib.Omega.{arith}
-use lib.Dec.{eqb, leb, ltb}
+use lib.Dec.{eqb, leb}
 use lib.ListN.{length, replicate}
 use borrow.Author.Tests.{eqb-true, eqb-false, ne-eqb, leb-true, le-leb, lt-ltb, le-ltb}
-use Rattle.paper.specs.Lists.{bytes, if, same, every, isEmpty, number, count}
+use Rattle.paper.specs.Lists.{if, same, every, number, count}
 use Rattle.paper.specs.Bytes.{isDigit, isDecoded}
-use Rattle.paper.proofs.Small.{no, both, same-self, and-intro, no-not}
+use Rattle.paper.proofs.Small.{both, same-self}
 use Rattle.paper.specs.Values.{cut, keep}
-use Rattle.paper.specs.Fields.{Field, Rule}
-use Rattle.paper.specs.Rules.{keeps, obeys, isZero, padded, isPackage, checks}
+use Rattle.paper.specs.Fields.{Field}
+use Rattle.paper.specs.Rules.{keeps, obeys, isZero, padded}
 use Rattle.paper.specs.Writing.{goodSlot, decimal, digitsOf}
 
 abbrev pub strip : List ℕ → List ℕ

@@ -1,21 +1,20 @@
 -- One element: from its slots to attributes and back, over any list of fields with distinct letters.
 use mathlib.Core.Path.{_≡_, refl, ap, sym, _∙_}
-use mathlib.Core.Bool.{Bool, true, false, not, _&&_, _||_, and-eq-true-iff}
-use mathlib.Core.List.{List, [], _∷_, _++_, append-assoc, append-nil}
-use Prim.Native.Nat.{ℕ, zero, suc, _+_, _*_, _-_, _≤_, _<_}
-use native.Mathlib.Omega.{arith}
-use lib.Dec.{eqb, leb, ltb}
+use mathlib.Core.Bool.{Bool, true, false, not, _&&_}
+use mathlib.Core.List.{List, [], _∷_, _++_}
+use Prim.Native.Nat.{ℕ}
+use lib.Dec.{leb}
 use lib.ListN.{length}
-use Rattle.paper.specs.Lists.{bytes, if, same, elem, twice, every, isEmpty, All, count}
-use Rattle.paper.specs.Bytes.{isDecoded, isAllowed, isSpace, isLetter}
-use Rattle.paper.proofs.Small.{no, both, neither, no-not, if-same, same-eq, same-comm, same-self, every-append, every-all}
-use Rattle.paper.specs.Grammar.{Attr, Attrs, end, space, attr, Name, isNameByte, double, Pass}
+use Rattle.paper.specs.Lists.{same, elem, twice, every, count}
+use Rattle.paper.specs.Bytes.{isDecoded, isAllowed, isLetter}
+use Rattle.paper.proofs.Small.{no, both, neither, no-not, if-same, same-comm, same-self, every-append, every-all}
+use Rattle.paper.specs.Grammar.{Attr, Attrs, end, space, attr, Name, isNameByte, double}
 use Rattle.paper.specs.Values.{cut, value, escape}
 use Rattle.paper.proofs.ValueLaws.{value-escape, escaped-raw, escape-allowed}
-use Rattle.paper.specs.Fields.{Kind, unknown, MP, P, A, O, S, M, W, R, X, is, Field, fieldsOf, tagName, excluded, Rule, text, version, digits, hexes, language, pageNo, birthday, sex, insured, stamp, one, lines, pzn, code3, dose, sign}
+use Rattle.paper.specs.Fields.{Kind, unknown, MP, P, A, O, S, M, W, R, X, Field, fieldsOf, tagName, excluded, Rule, text, version, digits, hexes, language, pageNo, birthday, sex, insured, stamp, one, lines, pzn, code3, dose, sign}
 use Rattle.paper.specs.Rules.{keeps, isZero, settle, obeys}
-use Rattle.paper.specs.Plan.{Slots, namesOf, slot}
-use Rattle.paper.specs.Judging.{names, found, slotsOf, lettersOf, breaks, broken, missing, clash, judgeSlots, own, fault, mpVersion, mpOver, mpHalf}
+use Rattle.paper.specs.Plan.{Slots, namesOf}
+use Rattle.paper.specs.Judging.{names, found, slotsOf, lettersOf, broken, missing, clash, own, mpVersion, mpOver, mpHalf}
 use Rattle.paper.specs.Writing.{goodSlot, goodSlots, goodElement, attrsOf, printAttrs, spelled}
 
 -- ---- a good slot
@@ -38,16 +37,16 @@ zero-nil code3 = refl
 zero-nil dose = refl
 zero-nil sign = refl
 
-record GoodValue (f : Field) (v : List ℕ) : Type 0 where
-  decoded : every isDecoded v ≡ true
-  kept : keeps f v ≡ true
-  uncut : same (cut v) v ≡ true
-  whole : isZero (f .rule) v ≡ false
+pub record GoodValue (f : Field) (v : List ℕ) : Type 0 where
+  pub decoded : every isDecoded v ≡ true
+  pub kept : keeps f v ≡ true
+  pub uncut : same (cut v) v ≡ true
+  pub whole : isZero (f .rule) v ≡ false
 
 decoded-of : (f : Field) (v : List ℕ) → keeps f v ≡ true → every isDecoded v ≡ true
 decoded-of f v e = both (every isDecoded v) (leb (f .least) (length v) && (leb (length v) (f .most) && (leb (count 126 v) (f .tildes) && obeys (f .rule) v))) e .0
 
-good-value : (f : Field) (c : ℕ) (v : List ℕ) → goodSlot f (c ∷ v) ≡ true → GoodValue f (c ∷ v)
+pub good-value : (f : Field) (c : ℕ) (v : List ℕ) → goodSlot f (c ∷ v) ≡ true → GoodValue f (c ∷ v)
 good-value f c v e =
     let (a, b) = both (keeps f (c ∷ v)) (same (cut (c ∷ v)) (c ∷ v) && not (isZero (f .rule) (c ∷ v))) e in
     let (x, y) = both (same (cut (c ∷ v)) (c ∷ v)) (not (isZero (f .rule) (c ∷ v))) b in
@@ -94,7 +93,7 @@ found-none n (f ∷ fs) [] e = refl
 found-none n (f ∷ fs) ([] ∷ vs) e = found-none n fs vs (neither (same n (f .letters)) (elem n (lettersOf fs)) e .1)
 found-none n (f ∷ fs) ((c ∷ v) ∷ vs) e = let (a, b) = neither (same n (f .letters)) (elem n (lettersOf fs)) e in rw (same-comm (f .letters) n, a) (found-none n fs vs b)
 
-slots-skip : (n r : List ℕ) (l : List Attr) (fs : List Field) → elem n (lettersOf fs) ≡ false → slotsOf fs (record { name = n; raw = r } ∷ l) ≡ slotsOf fs l
+pub slots-skip : (n r : List ℕ) (l : List Attr) (fs : List Field) → elem n (lettersOf fs) ≡ false → slotsOf fs (record { name = n; raw = r } ∷ l) ≡ slotsOf fs l
 slots-skip n r l [] e = refl
 slots-skip n r l (f ∷ fs) e = let (a, b) = neither (same n (f .letters)) (elem n (lettersOf fs)) e in rw (a, slots-skip n r l fs b)
 

@@ -1,19 +1,19 @@
 -- The machine takes nothing but words of the grammar.
-use mathlib.Core.Path.{_≡_, refl, ap, sym, _∙_}
+use mathlib.Core.Path.{_≡_, refl, ap, sym}
 use mathlib.Core.Logic.{_↔_}
-use mathlib.Core.Bool.{Bool, true, false, not, _&&_, _||_}
+use mathlib.Core.Bool.{Bool, true, false, _&&_, _||_}
 use mathlib.Core.Option.{Option, none, some}
 use mathlib.Core.List.{List, [], _∷_, _++_, append-assoc, append-nil}
-use Prim.Native.Nat.{ℕ, zero, suc, _+_, _*_, _-_, _≤_, _<_}
+use Prim.Native.Nat.{ℕ, suc}
 use native.Mathlib.Omega.{arith}
-use lib.Dec.{eqb, leb, ltb}
+use lib.Dec.{eqb}
 use lib.ListN.{length}
-use borrow.Author.Tests.{eqb-true, eqb-false, eq-eqb, ne-eqb}
-use Rattle.paper.specs.Lists.{bytes, if, All}
+use borrow.Author.Tests.{eqb-true}
+use Rattle.paper.specs.Lists.{if, All}
 use Rattle.paper.specs.Bytes.{isSpace, isDigit, isLetter}
 use Rattle.paper.proofs.Small.{no}
-use Rattle.paper.specs.Grammar.{Attr, Tag, start, end, amp, lt, gt, quot, apos, plain, space, attr, done, bare, full, close, Space, isNameByte, isHex, isPlain, Pass, Name, Some, Ref, Raw, Quote, double, single, Attrs, Rest, Page, ref, dec, hex}
-use Rattle.paper.specs.Machine.{InRef, RefMove, bad, on, over, State, Open, Half, Move, go, say, stop, before, after, less, tag, gap, slash, name, equals, quote, val, ref, inside, closing, amp0, ampa, num0, hex0, word, dec, hex, more, shut, up, gapStep, step, refStep, refGoes, prefix, follow, scan, isAfter}
+use Rattle.paper.specs.Grammar.{Attr, Tag, start, end, amp, lt, gt, quot, apos, plain, space, attr, done, bare, full, close, Space, isNameByte, isHex, isPlain, Pass, Ref, Raw, Quote, double, single, Attrs, Rest, Page, ref, dec, hex}
+use Rattle.paper.specs.Machine.{InRef, RefMove, bad, on, over, State, Open, Half, Move, go, say, stop, before, after, less, tag, gap, slash, name, equals, quote, val, ref, inside, closing, amp0, ampa, num0, hex0, word, dec, hex, more, up, gapStep, step, refStep, refGoes, prefix, follow, scan, isAfter}
 use Rattle.paper.proofs.Taken.{taken-page}
 
 -- ---- what may follow, by state

@@ -1,25 +1,24 @@
 -- The cut: fewest pages, and 14 exactly when there is none.
 use mathlib.Core.Path.{_≡_, refl, ap, sym, _∙_}
-use mathlib.Core.Logic.{_↔_, _⊎_, inl, inr}
-use mathlib.Core.Bool.{Bool, true, false, not, _&&_, _||_}
+use mathlib.Core.Logic.{_↔_}
+use mathlib.Core.Bool.{Bool, true, false, _&&_}
 use mathlib.Core.Option.{Option, none, some}
 use mathlib.Core.List.{List, [], _∷_, _++_}
-use Prim.Native.Nat.{ℕ, zero, suc, _+_, _*_, _-_, _≤_, _<_}
+use Prim.Native.Nat.{ℕ, suc, _+_, _≤_, _<_}
 use native.Mathlib.Omega.{arith}
-use lib.Dec.{eqb, leb, ltb}
+use lib.Dec.{leb, ltb}
 use lib.ListN.{length, length-append, take}
-use borrow.Author.Tests.{leb-true, leb-false, le-leb, lt-leb, ltb-true, ltb-false}
+use borrow.Author.Tests.{leb-true, leb-false, le-leb, ltb-true, ltb-false}
 use Rattle.paper.specs.Lists.{concat, bytes, if, every, isEmpty, same}
-use Rattle.paper.proofs.Small.{no, both, neither, no-not}
-use Rattle.paper.specs.Fields.{Kind, MP, S, M, W, R, X, Field, fieldsOf, tagName}
+use Rattle.paper.proofs.Small.{no, both}
+use Rattle.paper.specs.Fields.{Kind, S, M, W, R, X, Field, fieldsOf, tagName}
 use Rattle.paper.specs.Plan.{Slots, Row, Head, Plan, slot}
-use Rattle.paper.specs.Judging.{missing}
-use Rattle.paper.specs.Writing.{Written, tooMany, unsound, tooLong, written, sound, soundHead, soundRow, goodElement, goodSlots, spelled, opening, bare, closing, wsText, bodyText, decimal, rowSlots, noneOf, page, pages, heading, firstBad, place13}
+use Rattle.paper.specs.Writing.{Written, tooMany, unsound, tooLong, written, sound, soundHead, soundRow, goodElement, spelled, bare, wsText, decimal, pages, heading, place13}
 use Rattle.paper.proofs.BySize.{rowSize, base, greedy, laySized, none-cut, sized}
 use Rattle.paper.proofs.Element.{good-slots, good-whole}
 use Rattle.paper.proofs.Rows.{View, head, med, rec, free, AllSound, all-sound}
 use Rattle.paper.proofs.Sizes.{page-size, page-base, slotSizes, attrs-size, size-head, size-body}
-use Rattle.paper.proofs.RoundTrip.{Gave, gave, Short, theirs, isWritten, pages-count}
+use Rattle.paper.proofs.RoundTrip.{gave, Short, theirs, isWritten, pages-count}
 use Rattle.paper.specs.Cuts.{Fits, Cut, Cut≤}
 use Rattle.paper.proofs.AnyCut as C
 

@@ -1,22 +1,19 @@
 -- Pieces of a page: in the grammar, without faults, and saying what they should.
-use mathlib.Core.Path.{_≡_, refl, ap, sym, _∙_}
-use mathlib.Core.Bool.{Bool, true, false, not, _&&_, _||_, and-eq-true-iff}
-use mathlib.Core.List.{List, [], _∷_, _++_, append-assoc, append-nil}
-use Prim.Native.Nat.{ℕ, zero, suc, _+_, _*_, _-_, _≤_, _<_}
-use native.Mathlib.Omega.{arith}
-use lib.Dec.{eqb, leb, ltb}
+use mathlib.Core.Path.{_≡_, ap, _∙_}
+use mathlib.Core.Bool.{Bool, true, false, _||_}
+use mathlib.Core.List.{List, [], _∷_, _++_}
+use Prim.Native.Nat.{ℕ, _-_}
 use lib.ListN.{length}
-use borrow.Author.Tests.{eqb-true, eqb-false, eq-eqb, ne-eqb, leb-true, le-leb, leb-false}
-use Rattle.paper.specs.Lists.{bytes, if, same, elem, twice, every, some-of, isEmpty}
+use Rattle.paper.specs.Lists.{if, every}
 use Rattle.paper.specs.Bytes.{isAllowed}
-use Rattle.paper.proofs.Small.{no, both, neither, no-not, every-append}
-use Rattle.paper.specs.Grammar.{Attr, Tag, start, end, Attrs, Name, Rest, done, space, bare, full, close, placed}
-use Rattle.paper.specs.Fields.{Kind, unknown, MP, P, A, O, S, M, W, R, X, is, Field, fieldsOf, tagName, later, most-of}
-use Rattle.paper.specs.Plan.{Slots, slot, Row}
-use Rattle.paper.specs.Judging.{slotsOf, own, fault, Frame, frame, Stack, kindIn, misplaced, howMany, enter, note, next, here, faults, Item, item, early, says, items, lacks, allEmpty}
-use Rattle.paper.specs.Writing.{goodElement, attrsOf, spelled, opening, closing, wsText, bodyText, rowsText, heading, rowSlots, soundRow, noneOf, needs, decimal}
+use Rattle.paper.proofs.Small.{every-append}
+use Rattle.paper.specs.Grammar.{Attr, Tag, start, end, Name, Rest, bare, full, close, placed}
+use Rattle.paper.specs.Fields.{Kind, unknown, M, is, fieldsOf, tagName}
+use Rattle.paper.specs.Plan.{Slots}
+use Rattle.paper.specs.Judging.{slotsOf, own, fault, Frame, frame, Stack, kindIn, misplaced, enter, note, next, here, faults, Item, item, early, says, items, lacks}
+use Rattle.paper.specs.Writing.{goodElement, attrsOf, spelled, opening, closing}
 use Rattle.paper.specs.Writing as Wr
-use Rattle.paper.proofs.Element.{MpFine, own-none, slots-of, attrs-in, allowed-spelled, allowed-tag, name-of}
+use Rattle.paper.proofs.Element.{MpFine, own-none, slots-of, attrs-in, allowed-spelled, allowed-tag}
 
 -- the rest of a page: it is w, the stack is st, and it says xs
 pub record Fine (L : ℕ) (st : Stack) (ns : List (List ℕ)) (w : List ℕ) (xs : List Item) : Type 0 where

@@ -2,11 +2,11 @@
 use mathlib.Core.Path.{_≡_, refl, ap, sym, _∙_}
 use mathlib.Core.Bool.{Bool, true, false, not, _&&_, _||_}
 use mathlib.Core.List.{List, [], _∷_, _++_}
-use Prim.Native.Nat.{ℕ, zero, suc, _+_, _*_, _-_, _≤_, _<_}
+use Prim.Native.Nat.{ℕ}
 use native.Mathlib.Omega.{arith}
-use lib.Dec.{eqb, leb, ltb}
-use Rattle.paper.specs.Lists.{bytes, if, same, elem, twice, every, isEmpty}
-use Rattle.paper.proofs.Small.{no, both, neither, no-not, same-eq, same-comm, same-self, and-intro}
+use lib.Dec.{eqb}
+use Rattle.paper.specs.Lists.{if, same, elem, twice, every, isEmpty}
+use Rattle.paper.proofs.Small.{no, neither, same-eq, same-comm, same-self, and-intro}
 use Rattle.paper.specs.Grammar.{Attr}
 use Rattle.paper.specs.Values.{cut, keep, value, decode, text}
 use Rattle.paper.specs.Fields.{Kind, Field, fieldsOf, excluded, Pair}

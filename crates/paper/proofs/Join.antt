@@ -1,17 +1,17 @@
 -- Sheets that are numbered in order join to their rows.
-use mathlib.Core.Path.{_≡_, refl, ap, sym, _∙_}
-use mathlib.Core.Bool.{Bool, true, false, not, _&&_, _||_, and-eq-true-iff}
-use mathlib.Core.List.{List, [], _∷_, _++_, append-assoc, append-nil}
-use Prim.Native.Nat.{ℕ, zero, suc, _+_, _*_, _-_, _/_, _%_, _≤_, _<_}
+use mathlib.Core.Path.{_≡_, refl}
+use mathlib.Core.Bool.{Bool, true, false, _||_}
+use mathlib.Core.List.{List, [], _∷_}
+use Prim.Native.Nat.{ℕ, zero, suc, _+_, _≤_, _<_}
 use native.Mathlib.Omega.{arith}
-use lib.Dec.{eqb, leb, ltb}
-use lib.ListN.{length, length-append}
-use borrow.Author.Tests.{eqb-true, eqb-false, eq-eqb, ne-eqb, le-leb}
-use Rattle.paper.specs.Lists.{concat, bytes, if, same}
-use Rattle.paper.proofs.Small.{no, both, neither, same-self}
-use Rattle.paper.specs.Plan.{Slots, Row, Head, Plan, sameHead, sameSlots}
-use Rattle.paper.specs.Judging.{Sheet, Judged, sheet, judge}
-use Rattle.paper.specs.Reading.{Answer, refusal, plan, Judgement, sheets, judgeAll, cons, other, has, again, lowest, rowsAt, joined, first, enough, join}
+use lib.Dec.{eqb}
+use lib.ListN.{length}
+use borrow.Author.Tests.{eqb-false, eq-eqb, ne-eqb, le-leb}
+use Rattle.paper.specs.Lists.{concat}
+use Rattle.paper.proofs.Small.{no, same-self}
+use Rattle.paper.specs.Plan.{Slots, Row, Head, sameHead, sameSlots}
+use Rattle.paper.specs.Judging.{Sheet}
+use Rattle.paper.specs.Reading.{plan, other, has, again, lowest, joined, join}
 use Rattle.paper.proofs.Sheets.{theSheet}
 
 abbrev pub theSheets : Head → ℕ → ℕ → List (List Row) → List Sheet
@@ -58,7 +58,7 @@ pub none-lowest : (l : List Sheet) (k n : ℕ) → ((m : ℕ) → n ≤ m → m 
 none-lowest l zero n h = refl
 none-lowest l (suc k) n h = rw (h n (omega arith) (omega arith)) (none-lowest l k (suc n) (λ m p q. h m (omega arith) (omega arith)))
 
-skip : (s : Sheet) (l : List Sheet) (k n : ℕ) → s .no < n → joined (s ∷ l) n k ≡ joined l n k
+pub skip : (s : Sheet) (l : List Sheet) (k n : ℕ) → s .no < n → joined (s ∷ l) n k ≡ joined l n k
 skip s l zero n h = refl
 skip s l (suc k) n h = rw (ne-eqb (s .no) n (omega arith), skip s l k (suc n) (omega arith))
 

@@ -26,3 +26,14 @@ pub mod Fewest
 pub mod Same
 pub mod Writable
 pub mod Writer
+pub mod Layouts
+pub mod Parted
+pub mod Weights
+pub mod Rooms
+pub mod ListingOnce
+pub mod PageNumbers
+pub mod Reordered
+pub mod Collected
+pub mod MissingMask
+pub mod CellLaws
+pub mod CallLaws

@@ -3,16 +3,16 @@ use mathlib.Core.Path.{_≡_, refl, ap, sym, _∙_}
 use mathlib.Core.Logic.{_↔_}
 use mathlib.Core.Bool.{Bool, true, false, not, _&&_, _||_}
 use mathlib.Core.Option.{Option, none, some}
-use mathlib.Core.List.{List, [], _∷_, _++_, append-assoc, append-nil}
-use Prim.Native.Nat.{ℕ, zero, suc, _+_, _*_, _-_, _≤_, _<_}
+use mathlib.Core.List.{List, [], _∷_, _++_}
+use Prim.Native.Nat.{ℕ, suc, _≤_}
 use native.Mathlib.Omega.{arith}
-use lib.Dec.{eqb, leb, ltb}
+use lib.Dec.{eqb}
 use lib.ListN.{length, take}
 use borrow.Author.Tests.{eq-eqb}
 use Rattle.paper.specs.Lists.{if}
-use Rattle.paper.specs.Bytes.{isSpace, isDigit, isLetter, isAllowed}
+use Rattle.paper.specs.Bytes.{isSpace, isLetter, isAllowed}
 use Rattle.paper.proofs.Small.{no}
-use Rattle.paper.specs.Grammar.{Attr, Tag, start, end, Page, ref, dec, hex, isNameByte, isPlain}
+use Rattle.paper.specs.Grammar.{Tag, Page, ref, dec, hex, isNameByte, isPlain}
 use Rattle.paper.specs.Machine.{InRef, RefMove, bad, on, over, State, Open, Half, Move, go, say, stop, before, after, less, tag, gap, slash, name, equals, quote, val, ref, inside, closing, amp0, ampa, num0, hex0, word, dec, hex, more, shut, up, gapStep, step, refStep, refGoes, prefix, follow, scan, isAfter, one-more, eaten}
 use Rattle.paper.proofs.Exact.{exact}
 use Rattle.paper.proofs.AnyMachine as Mc

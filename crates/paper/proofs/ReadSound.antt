@@ -3,15 +3,15 @@ use mathlib.Core.Path.{_≡_, refl, ap, sym, _∙_}
 use mathlib.Core.Bool.{Bool, true, false, not, _&&_, _||_}
 use mathlib.Core.Option.{Option, none, some}
 use mathlib.Core.List.{List, [], _∷_, _++_}
-use Prim.Native.Nat.{ℕ, zero, suc, _+_, _*_, _-_, _/_, _%_, _≤_, _<_}
+use Prim.Native.Nat.{ℕ, zero, suc, _+_, _/_, _%_, _≤_}
 use native.Mathlib.Omega.{arith}
 use lib.Dec.{eqb, leb, ltb}
 use lib.ListN.{length, drop}
-use borrow.Author.Tests.{eqb-true, leb-true, le-leb}
+use borrow.Author.Tests.{leb-true, le-leb, ltb-false}
 use Rattle.paper.specs.Lists.{bytes, if, same, every, isEmpty, number, count, until}
 use Rattle.paper.specs.Bytes.{isDigit, isDecoded, isAllowed}
 use Rattle.paper.proofs.Small.{no, both, neither, and-intro, no-not}
-use Rattle.paper.specs.Grammar.{Attr, Tag, start, end, placed}
+use Rattle.paper.specs.Grammar.{Attr, Tag, start, end, Page, placed}
 use Rattle.paper.specs.Machine.{scan, before}
 use Rattle.paper.specs.Values.{cut}
 use Rattle.paper.proofs.Exact.{exact}
@@ -19,20 +19,20 @@ use Rattle.paper.specs.Fields.{Kind, unknown, MP, P, A, O, S, M, W, R, X
 use Rattle.paper.specs.Rules.{padded, checks, isPackage, keeps, obeys, isZero, settle}
 use Rattle.paper.specs.Plan.{Slots, slot, Row, Head, Plan, namesOf, blank}
 use Rattle.paper.specs.Judging.{Fault, faults, items, Item, item, here, early, enter, frame, slotsOf, found, kindIn, sheetOf, headOf, rowsOf, rowOf, or, allEmpty, part, missing, clash, Sheet, Judged, refused, sheet, verdict, judgeTags, judge}
-use Rattle.paper.specs.Reading.{Answer, refusal, plan, decide, judgeAll, read, rowsAt, joined, join}
-use Rattle.paper.specs.Writing.{goodSlot, goodSlots, goodElement, decimal, digitsOf, mpSlots, soundHead, soundRow, sound, needs, rowSlots, noneOf}
+use Rattle.paper.specs.Reading.{refusal, plan, decide, judgeAll, read, rowsAt, joined}
+use Rattle.paper.specs.Writing.{goodSlot, goodSlots, goodElement, decimal, digitsOf, mpSlots, soundHead, soundRow, sound, noneOf}
 use Rattle.paper.proofs.Element.{good-slots}
-use Rattle.paper.proofs.Given.{append-nil-both, OwnFine}
-use Rattle.paper.proofs.Told.{ItemOk, ItemsOk, items-ok, both-there, found-any, Root, Bal, page-placed, started, Started, frame-ok, nothing, FrameOk}
+use Rattle.paper.proofs.Given.{append-nil-both}
+use Rattle.paper.proofs.Told.{ItemOk, ItemsOk, items-ok, both-there, found-any, Root, Bal, page-placed, started, frame-ok, nothing}
 use Rattle.paper.proofs.Canon.{canon, padded-zero}
-use Rattle.paper.proofs.AnyOrder.{isPlan, judged-each, each-judged, Each, Alike, Accept, accepts}
+use Rattle.paper.proofs.AnyOrder.{isPlan, judged-each, each-judged, Each, Accept, accepts}
 
 -- ---- the two numbers
 
-abbrev pF : Field
+abbrev pub pF : Field
 pF = field MP (bytes "p") digits 1 2 0 false
 
-abbrev zF : Field
+abbrev pub zF : Field
 zF = field M (bytes "p") pzn 1 8 0 false
 
 package-minds : (s : List ℕ) → length s ≤ 7 → isPackage (48 ∷ s) ≡ true → isPackage s ≡ true
@@ -40,7 +40,7 @@ package-minds s h e =
     let (a, b) = both (every isDigit s && leb 1 (number 0 s)) (checks (padded (48 ∷ s))) e in
     and-intro (every isDigit s && leb 1 (number 0 s)) (checks (padded s)) a (ap checks (sym (padded-zero s h)) ∙ b)
 
-package-digits : (v : List ℕ) → isPackage v ≡ true → every isDigit v ≡ true
+pub package-digits : (v : List ℕ) → isPackage v ≡ true → every isDigit v ≡ true
 package-digits v e = both (every isDigit v) (leb 1 (number 0 v)) (both (every isDigit v && leb 1 (number 0 v)) (checks (padded v)) e .0) .0
 
 canon-patch : (p : List ℕ) → goodSlot pF p ≡ true → goodSlot pF (decimal (number 0 p)) ≡ true
@@ -63,7 +63,7 @@ missing-p : (vs : Slots) (x y : List ℕ) → missing (fieldsOf M) (x ∷ vs) �
 unfolding fieldsOf
 missing-p vs x y = refl
 
-slots-m : (vs : Slots) (x : List ℕ) → goodSlots (fieldsOf M) (x ∷ vs) ≡ goodSlot zF x && goodSlots (drop 1 (fieldsOf M)) vs
+pub slots-m : (vs : Slots) (x : List ℕ) → goodSlots (fieldsOf M) (x ∷ vs) ≡ goodSlot zF x && goodSlots (drop 1 (fieldsOf M)) vs
 unfolding fieldsOf
 slots-m vs x = refl
 
@@ -93,23 +93,29 @@ decimal-full : (n : ℕ) → 1 ≤ n → isEmpty (decimal n) ≡ false
 decimal-full zero h = absurd (omega arith)
 decimal-full (suc n) h = digits-full 8 (suc n)
 
-obeyed : (f : Field) (c : ℕ) (v : List ℕ) → goodSlot f (c ∷ v) ≡ true → obeys (f .rule) (c ∷ v) ≡ true
-obeyed f c v g =
+-- what a good present value keeps: its least and greatest length, and its rule
+pub record Keeping (f : Field) (v : List ℕ) : Type 0 where
+  pub long : f .least ≤ length v
+  pub short : length v ≤ f .most
+  pub rule : obeys (f .rule) v ≡ true
+
+-- A good present value keeps its field.
+pub keeping : (f : Field) (c : ℕ) (v : List ℕ) → goodSlot f (c ∷ v) ≡ true → Keeping f (c ∷ v)
+keeping f c v g =
     let w : List ℕ = c ∷ v in
     let r₃ : Bool = leb (count 126 w) (f .tildes) && obeys (f .rule) w in
     let r₂ : Bool = leb (length w) (f .most) && r₃ in
     let r₁ : Bool = leb (f .least) (length w) && r₂ in
     let k = both (keeps f w) (same (cut w) w && not (isZero (f .rule) w)) g .0 in
-    both (leb (count 126 w) (f .tildes)) (obeys (f .rule) w) (both (leb (length w) (f .most)) r₃ (both (leb (f .least) (length w)) r₂ (both (every isDecoded w) r₁ k .1) .1) .1) .1
+    let (a, b) = both (leb (f .least) (length w)) r₂ (both (every isDecoded w) r₁ k .1) in
+    let (d, e) = both (leb (length w) (f .most)) r₃ b in
+    record { long = leb-true (f .least) (length w) a; short = leb-true (length w) (f .most) d; rule = both (leb (count 126 w) (f .tildes)) (obeys (f .rule) w) e .1 }
+
+obeyed : (f : Field) (c : ℕ) (v : List ℕ) → goodSlot f (c ∷ v) ≡ true → obeys (f .rule) (c ∷ v) ≡ true
+obeyed f c v g = keeping f c v g .rule
 
 short-slot : (f : Field) (c : ℕ) (v : List ℕ) → goodSlot f (c ∷ v) ≡ true → length (c ∷ v) ≤ f .most
-short-slot f c v g =
-    let w : List ℕ = c ∷ v in
-    let r₃ : Bool = leb (count 126 w) (f .tildes) && obeys (f .rule) w in
-    let r₂ : Bool = leb (length w) (f .most) && r₃ in
-    let r₁ : Bool = leb (f .least) (length w) && r₂ in
-    let k = both (keeps f w) (same (cut w) w && not (isZero (f .rule) w)) g .0 in
-    leb-true (length w) (f .most) (both (leb (length w) (f .most)) r₃ (both (leb (f .least) (length w)) r₂ (both (every isDecoded w) r₁ k .1) .1) .0)
+short-slot f c v g = keeping f c v g .short
 
 same-empty : (p : List ℕ) → goodSlot zF p ≡ true → isEmpty (decimal (number 0 p)) ≡ isEmpty p
 same-empty [] g = refl
@@ -120,7 +126,7 @@ same-empty (c ∷ v) g =
 
 -- ---- rows
 
-slot-p : (x : List ℕ) (vs : Slots) → slot (bytes "p") (fieldsOf M) (x ∷ vs) ≡ x
+pub slot-p : (x : List ℕ) (vs : Slots) → slot (bytes "p") (fieldsOf M) (x ∷ vs) ≡ x
 unfolding fieldsOf
 slot-p x vs = refl
 
@@ -128,7 +134,7 @@ slot-a : (x y : List ℕ) (vs : Slots) → slot (bytes "a") (fieldsOf M) (x ∷ 
 unfolding fieldsOf
 slot-a x y vs = refl
 
-no-slots : goodSlots (fieldsOf M) [] ≡ false
+pub no-slots : goodSlots (fieldsOf M) [] ≡ false
 unfolding fieldsOf
 no-slots = refl
 
@@ -201,10 +207,10 @@ patch-small (c ∷ e ∷ []) g =
     omega (arith, leb-true c 57 j, leb-true e 57 l)
 patch-small (c ∷ e ∷ f ∷ v) g = absurd (let h = short-slot pF c (e ∷ f ∷ v) g in omega arith)
 
-abbrev uF : Field
+abbrev pub uF : Field
 uF = field MP (bytes "U") hexes 32 32 0 true
 
-abbrev lF : Field
+abbrev pub lF : Field
 lF = field MP (bytes "l") language 5 5 0 false
 
 good-lang : (l : List ℕ) → goodSlot lF l ≡ true → (goodSlot lF (or l (bytes "de-DE")) ≡ true) × (isEmpty (or l (bytes "de-DE")) ≡ false)
@@ -215,7 +221,7 @@ not-missing : (u : List ℕ) (b : Bool) → not (isEmpty u || false) && b ≡ tr
 not-missing [] b e = no (sym e)
 not-missing (c ∷ u) b e = refl
 
-parts : (v p u l a z : List ℕ) → goodElement MP (v ∷ p ∷ u ∷ l ∷ a ∷ z ∷ []) ≡ true → (goodSlot pF p ≡ true) × (goodSlot uF u ≡ true) × (goodSlot lF l ≡ true) × (isEmpty u ≡ false)
+pub parts : (v p u l a z : List ℕ) → goodElement MP (v ∷ p ∷ u ∷ l ∷ a ∷ z ∷ []) ≡ true → (goodSlot pF p ≡ true) × (goodSlot uF u ≡ true) × (goodSlot lF l ≡ true) × (isEmpty u ≡ false)
 unfolding goodElement fieldsOf
 parts v p u l a z g =
     let F : List Field = fieldsOf MP in
@@ -332,19 +338,35 @@ abbrev sheetIn : Sheet → Judged → Sheet
 sheetIn d (refused n i) = d
 sheetIn d (sheet s) = s
 
-judge-ok : (w : List ℕ) (s : Sheet) → judge w ≡ sheet s → SheetOk s
-unfolding judge
-judge-ok w s e = at (eqb (length w) 0 || ltb 1400 (length w)) (every isAllowed w) (scan before w) refl e
-  where
-    last : (t : List Tag) → Root t → (fs : List Fault) → faults [] t ≡ fs → verdict fs (items [] t) ≡ sheet s → SheetOk s
-    last t r [] q e = let p : sheetOf (items [] t) ≡ s = ap (sheetIn s) e in rw (sym p) (tags-sheet t r q)
-    last t r (f ∷ fs) q e = no (sym (ap isSheet e))
+-- what it takes that a page is a sheet: it is well-formed, its tags have no faults and say the sheet, and it is not too long
+pub record Judges (w : List ℕ) (s : Sheet) : Type 0 where
+  pub tags : List Tag
+  pub taken : Page w tags
+  pub clean : faults [] (placed (length w) tags) ≡ []
+  pub told : sheetOf (items [] (placed (length w) tags)) ≡ s
+  pub short : length w ≤ 1400
 
-    at : (b c : Bool) (o : Option (List Tag)) → scan before w ≡ o → if b (refused 2 0) (if c (judgeTags o w) (refused 3 (until isAllowed w))) ≡ sheet s → SheetOk s
-    at true c o q e = no (sym (ap isSheet e))
-    at false false o q e = no (sym (ap isSheet e))
-    at false true none q e = no (sym (ap isSheet e))
-    at false true (some t) q e = last (placed (length w) t) (page-placed (length w) (exact w t .1 q)) (faults [] (placed (length w) t)) refl e
+-- A page that is judged to a sheet says it, by tags without faults.
+pub judges : (w : List ℕ) (s : Sheet) → judge w ≡ sheet s → Judges w s
+unfolding judge
+judges w s e = at (eqb (length w) 0 || ltb 1400 (length w)) refl (every isAllowed w) (scan before w) refl e
+  where
+    fits : (eqb (length w) 0 || ltb 1400 (length w)) ≡ false → length w ≤ 1400
+    fits q = ltb-false 1400 (length w) (neither (eqb (length w) 0) (ltb 1400 (length w)) q .1)
+
+    last : (t : List Tag) → Page w t → length w ≤ 1400 → (fs : List Fault) → faults [] (placed (length w) t) ≡ fs → verdict fs (items [] (placed (length w) t)) ≡ sheet s → Judges w s
+    last t p h [] q e = record { tags = t; taken = p; clean = q; told = ap (sheetIn s) e; short = h }
+    last t p h (f ∷ fs) q e = no (sym (ap isSheet e))
+
+    at : (b : Bool) → (eqb (length w) 0 || ltb 1400 (length w)) ≡ b → (c : Bool) (o : Option (List Tag)) → scan before w ≡ o → if b (refused 2 0) (if c (judgeTags o w) (refused 3 (until isAllowed w))) ≡ sheet s → Judges w s
+    at true l c o q e = no (sym (ap isSheet e))
+    at false l false o q e = no (sym (ap isSheet e))
+    at false l true none q e = no (sym (ap isSheet e))
+    at false l true (some t) q e = last t (exact w t .1 q) (fits l) (faults [] (placed (length w) t)) refl e
+
+-- A page that is judged to a sheet has a sound head and sound rows.
+pub judge-ok : (w : List ℕ) (s : Sheet) → judge w ≡ sheet s → SheetOk s
+judge-ok w s e = let j = judges w s e in rw (sym (j .told)) (tags-sheet (placed (length w) (j .tags)) (page-placed (length w) (j .taken)) (j .clean))
 
 abbrev SheetsOk : List Sheet → Type 0
 SheetsOk [] = Unit {0}
@@ -378,14 +400,29 @@ plan-ok p (x ∷ l) s a =
     let r : every soundRow (p .rows) ≡ true = ap (every soundRow) (sym (a .rows)) ∙ joined-ok (x ∷ l) (a .count) 1 s in
     and-intro (soundHead (p .head)) (every soundRow (p .rows)) h r
 
+-- what it takes that pages are read to a plan: at most nine, each a sheet, and the sheets accepted as the plan
+pub record Reads (f : List (List ℕ)) (p : Plan) : Type 0 where
+  pub sheets : List Sheet
+  pub each : Each f sheets
+  pub accept : Accept sheets p
+  pub nine : length f ≤ 9
+
+-- Pages that are read to a plan are sheets that make it up.
+pub reads : (f : List (List ℕ)) (p : Plan) → read f ≡ plan p → Reads f p
+unfolding read
+reads f p e = at (leb 1 (length f) && leb (length f) 9) refl e
+  where
+    at : (b : Bool) → (leb 1 (length f) && leb (length f) 9) ≡ b → if b (decide (judgeAll 1 f)) (refusal 1 0 0) ≡ plan p → Reads f p
+    at false q e = no (sym (ap isPlan e))
+    at true q e =
+        let (l, d) = judged-each 1 f p e in
+        record {
+          sheets = l;
+          each = d;
+          accept = accepts l p (sym (ap decide (each-judged 1 f l d)) ∙ e);
+          nine = leb-true (length f) 9 (both (leb 1 (length f)) (leb (length f) 9) q .1);
+        }
+
 -- 3. reading gives sound plans, of at most 256 rows
 pub read-sound : (f : List (List ℕ)) (p : Plan) → read f ≡ plan p → (sound p ≡ true) × (length (p .rows) ≤ 256)
-unfolding read
-read-sound f p e = at (leb 1 (length f) && leb (length f) 9) e
-  where
-    at : (b : Bool) → if b (decide (judgeAll 1 f)) (refusal 1 0 0) ≡ plan p → (sound p ≡ true) × (length (p .rows) ≤ 256)
-    at false e = no (sym (ap isPlan e))
-    at true e =
-        let (l, d) = judged-each 1 f p e in
-        let a = accepts l p (sym (ap decide (each-judged 1 f l d)) ∙ e) in
-        (plan-ok p l (each-ok f l d) a, a .few)
+read-sound f p e = let r = reads f p e in (plan-ok p (r .sheets) (each-ok f (r .sheets) (r .each)) (r .accept), r .accept .few)

@@ -1,22 +1,21 @@
 -- Fresh pages read back to the plan.
 use mathlib.Core.Path.{_≡_, refl, ap, sym, _∙_}
 use mathlib.Core.Logic.{_↔_}
-use mathlib.Core.Bool.{Bool, true, false, not, _&&_, _||_, and-eq-true-iff}
+use mathlib.Core.Bool.{Bool, true, false}
 use mathlib.Core.Option.{Option, none, some}
-use mathlib.Core.List.{List, [], _∷_, _++_, append-assoc, append-nil}
-use Prim.Native.Nat.{ℕ, zero, suc, _+_, _*_, _-_, _/_, _%_, _≤_, _<_}
+use mathlib.Core.List.{List, [], _∷_, _++_}
+use Prim.Native.Nat.{ℕ, suc, _+_, _≤_}
 use native.Mathlib.Omega.{arith}
-use lib.Dec.{eqb, leb, ltb}
-use lib.ListN.{length, length-append}
-use borrow.Author.Tests.{eqb-true, eqb-false, eq-eqb, ne-eqb, le-leb, leb-true}
-use Rattle.paper.specs.Lists.{concat, bytes, if, every}
+use lib.Dec.{leb}
+use lib.ListN.{length}
+use borrow.Author.Tests.{le-leb, leb-true}
+use Rattle.paper.specs.Lists.{concat, if, every}
 use Rattle.paper.proofs.Small.{no, both}
-use Rattle.paper.specs.Plan.{Slots, Row, Head, Plan}
-use Rattle.paper.specs.Judging.{Sheet, Judged, sheet, judge}
-use Rattle.paper.specs.Reading.{Answer, refusal, plan, Judgement, sheets, judgeAll, cons, decide, join, read}
-use Rattle.paper.specs.Writing.{Written, tooMany, unsound, tooLong, written, sound, soundHead, soundRow, page, pages, heading, firstBad, place13}
+use Rattle.paper.specs.Plan.{Row, Head, Plan}
+use Rattle.paper.specs.Reading.{Answer, refusal, plan, sheets, judgeAll, read}
+use Rattle.paper.specs.Writing.{Written, tooMany, unsound, tooLong, written, sound, soundHead, soundRow, page, pages, heading, place13}
 use Rattle.paper.proofs.BySize.{rowSize, base, greedy, laySized, none-cut, sized}
-use Rattle.paper.proofs.Sheets.{SoundHead, head-sound, theSheet, page-judged}
+use Rattle.paper.proofs.Sheets.{SoundHead, head-sound, page-judged}
 use Rattle.paper.proofs.Rows.{AllSound, all-sound}
 use Rattle.paper.proofs.Sizes.{page-size, page-base}
 use Rattle.paper.proofs.Join.{theSheets, joins}

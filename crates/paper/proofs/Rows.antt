@@ -1,25 +1,24 @@
 -- The rows of a fresh page: fine, and they say the rows.
-use mathlib.Core.Path.{_≡_, refl, ap, sym, _∙_}
-use mathlib.Core.Bool.{Bool, true, false, not, _&&_, _||_, and-eq-true-iff}
+use mathlib.Core.Path.{_≡_, refl, sym}
+use mathlib.Core.Bool.{Bool, true, false, not, _&&_, _||_}
 use mathlib.Core.List.{List, [], _∷_, _++_, append-assoc, append-nil}
 use Prim.Native.Nat.{ℕ, zero, suc, _+_, _*_, _-_, _/_, _%_, _≤_, _<_}
 use native.Mathlib.Omega.{arith}
 use lib.Dec.{eqb, leb, ltb}
 use lib.ListN.{length, length-append, drop}
-use borrow.Author.Tests.{eqb-true, eqb-false, eq-eqb, ne-eqb, leb-true, le-leb, leb-false, ltb-false, ltb-true, lt-leb}
-use Rattle.paper.specs.Lists.{bytes, if, same, elem, twice, every, some-of, isEmpty, number, count}
-use Rattle.paper.specs.Bytes.{isAllowed, isDecoded}
-use Rattle.paper.proofs.Small.{no, both, neither, no-not, every-append}
-use Rattle.paper.specs.Grammar.{Name}
-use Rattle.paper.specs.Fields.{Kind, unknown, MP, P, A, O, S, M, W, R, X, is, Field, field, pzn, fieldsOf, tagName, later, most-of}
+use borrow.Author.Tests.{eqb-true, ne-eqb, leb-true, lt-leb}
+use Rattle.paper.specs.Lists.{bytes, if, same, every, some-of, isEmpty, number, count}
+use Rattle.paper.specs.Bytes.{isDecoded}
+use Rattle.paper.proofs.Small.{no, both, no-not}
+use Rattle.paper.specs.Fields.{Kind, unknown, MP, P, A, O, S, M, W, R, X, is, Field, field, pzn, fieldsOf, tagName, later}
 use Rattle.paper.specs.Rules.{keeps, obeys, isZero}
 use Rattle.paper.specs.Values.{cut}
 use Rattle.paper.specs.Plan.{Slots, slot, Row, blank}
-use Rattle.paper.specs.Judging.{Frame, frame, Stack, kindIn, misplaced, howMany, note, Item, item, lacks, allEmpty, rowOf, rowsOf, tail, part}
-use Rattle.paper.specs.Writing.{goodSlot, goodSlots, goodElement, opening, closing, wsText, bodyText, rowsText, heading, rowSlots, soundRow, noneOf, needs, decimal, digitsOf}
+use Rattle.paper.specs.Judging.{Frame, Stack, misplaced, howMany, Item, item, lacks, allEmpty, rowOf, rowsOf, tail, part}
+use Rattle.paper.specs.Writing.{goodSlot, goodSlots, goodElement, opening, wsText, bodyText, rowsText, heading, rowSlots, soundRow, noneOf, needs, decimal, digitsOf}
 use Rattle.paper.specs.Writing as Wr
 use Rattle.paper.proofs.Element.{MpFine, name-of, good-slots}
-use Rattle.paper.proofs.Fine.{Fine, Elem, startItems, endItems, fine-bare, fine-open, fine-close}
+use Rattle.paper.proofs.Fine.{Fine, Elem, fine-bare, fine-open, fine-close}
 
 -- ---- what a sound row is, by its kind
 
@@ -113,7 +112,7 @@ package-back n vs g =
 
 -- ---- and say them
 
-back-one : {r : Row} → View r → rowOf (item (r .kind) (rowSlots r) (r .ws)) ≡ r ∷ []
+pub back-one : {r : Row} → View r → rowOf (item (r .kind) (rowSlots r) (r .ws)) ≡ r ∷ []
 unfolding fieldsOf
 back-one (head vs e g) = rw e
 back-one (med n vs ws l w e g) = rw (package-back n vs g)

@@ -1,27 +1,25 @@
 -- A fresh page of a sound head and sound rows is judged to be just those.
 use mathlib.Core.Path.{_≡_, refl, ap, sym, _∙_}
-use mathlib.Core.Bool.{Bool, true, false, not, _&&_, _||_, and-eq-true-iff}
-use mathlib.Core.Option.{Option, none, some}
-use mathlib.Core.List.{List, [], _∷_, _++_, append-assoc, append-nil}
-use Prim.Native.Nat.{ℕ, zero, suc, _+_, _*_, _-_, _/_, _%_, _≤_, _<_}
+use mathlib.Core.Bool.{Bool, true, false, not, _&&_, _||_}
+use mathlib.Core.List.{List, [], _∷_}
+use Prim.Native.Nat.{ℕ, _+_, _-_, _≤_}
 use native.Mathlib.Omega.{arith}
-use lib.Dec.{eqb, leb, ltb}
-use lib.ListN.{length, length-append, drop}
-use borrow.Author.Tests.{eqb-true, eqb-false, eq-eqb, ne-eqb, leb-true, le-leb, leb-false, ltb-false, ltb-true, lt-leb, le-ltb}
-use Rattle.paper.specs.Lists.{bytes, if, same, elem, twice, every, some-of, isEmpty, number}
+use lib.Dec.{eqb, leb}
+use lib.ListN.{length, drop}
+use borrow.Author.Tests.{eqb-true, ne-eqb, leb-true, le-ltb}
+use Rattle.paper.specs.Lists.{bytes, if, every, isEmpty, number}
 use Rattle.paper.specs.Bytes.{isAllowed}
-use Rattle.paper.proofs.Small.{no, both, neither, no-not, every-append, and-intro, below-at}
-use Rattle.paper.specs.Grammar.{Tag, start, Name, Page, full, done, placed}
-use Rattle.paper.specs.Machine.{scan, before}
+use Rattle.paper.proofs.Small.{no, both, no-not, every-append, and-intro, below-at}
+use Rattle.paper.specs.Grammar.{Tag, start, Page, full, done, placed}
 use Rattle.paper.proofs.Taken.{taken-page}
-use Rattle.paper.specs.Fields.{Kind, unknown, MP, P, A, O, S, M, W, R, X, is, Field, field, fieldsOf, tagName, excluded, version, digits, hexes, language, pageNo}
-use Rattle.paper.specs.Plan.{Slots, slot, Row, Head, blank, namesOf}
-use Rattle.paper.specs.Judging.{Frame, frame, Stack, howMany, Item, item, lacks, allEmpty, rowsOf, part, sheetOf, headOf, or, Sheet, Judged, sheet, refused, judge, judgeTags, verdict, faults, items, missing, clash}
-use Rattle.paper.specs.Writing.{goodSlot, goodSlots, goodElement, opening, closing, rowsText, measuresText, soundHead, soundRow, decimal, mpSlots, page, spelled, attrsOf}
+use Rattle.paper.specs.Fields.{Kind, MP, P, A, O, Field, field, fieldsOf, tagName, excluded, version, digits, hexes, language, pageNo}
+use Rattle.paper.specs.Plan.{Slots, Row, Head, blank, namesOf}
+use Rattle.paper.specs.Judging.{Item, item, allEmpty, rowsOf, part, sheetOf, or, Sheet, sheet, judge, faults, items, missing, clash}
+use Rattle.paper.specs.Writing.{goodSlot, goodSlots, goodElement, opening, closing, rowsText, measuresText, soundHead, decimal, mpSlots, page, spelled, attrsOf}
 use Rattle.paper.specs.Writing as Wr
 use Rattle.paper.proofs.Element.{MpFine, name-of, good-slots, attrs-in, allowed-spelled}
-use Rattle.paper.proofs.Fine.{Fine, Elem, fine-bare, fine-open, fine-close, faults-start, items-start}
-use Rattle.paper.proofs.Rows.{View, AllSound, mpframe, Present, fine-rows, rowItems, rows-back, part-rows, mp-no}
+use Rattle.paper.proofs.Fine.{Fine, Elem, fine-bare, fine-close, faults-start, items-start}
+use Rattle.paper.proofs.Rows.{AllSound, mpframe, Present, fine-rows, rowItems, rows-back, part-rows, mp-no}
 
 -- ---- MP
 

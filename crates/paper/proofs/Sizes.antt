@@ -1,18 +1,17 @@
 -- The length of a page is a sum over its rows.
-use mathlib.Core.Path.{_≡_, refl, ap, sym, _∙_}
-use mathlib.Core.Bool.{Bool, true, false, not, _&&_, _||_, and-eq-true-iff}
-use mathlib.Core.List.{List, [], _∷_, _++_, append-assoc, append-nil}
-use Prim.Native.Nat.{ℕ, zero, suc, _+_, _*_, _-_, _/_, _%_, _≤_, _<_}
+use mathlib.Core.Path.{_≡_, refl, sym, _∙_}
+use mathlib.Core.Bool.{Bool, true, false}
+use mathlib.Core.List.{List, [], _∷_, _++_}
+use Prim.Native.Nat.{ℕ, _+_, _≤_}
 use native.Mathlib.Omega.{arith}
-use lib.Dec.{eqb, leb, ltb}
 use lib.ListN.{length, length-append}
-use borrow.Author.Tests.{eqb-true, eqb-false, eq-eqb, ne-eqb}
-use Rattle.paper.specs.Lists.{bytes, if}
-use Rattle.paper.specs.Fields.{Kind, MP, P, A, O, S, M, W, Field, fieldsOf, tagName, is}
+use borrow.Author.Tests.{ne-eqb}
+use Rattle.paper.specs.Lists.{if}
+use Rattle.paper.specs.Fields.{Kind, MP, P, A, O, S, W, Field, fieldsOf}
 use Rattle.paper.specs.Plan.{Slots, Row, Head}
 use Rattle.paper.specs.Values.{esc, escape}
 use Rattle.paper.specs.Judging.{allEmpty}
-use Rattle.paper.specs.Writing.{bare, opening, closing, wsText, bodyText, rowsText, heading, rowSlots, measuresText, mpSlots, page, spelled, attrsOf, printAttrs, decimal}
+use Rattle.paper.specs.Writing.{bare, opening, closing, wsText, bodyText, rowsText, heading, rowSlots, measuresText, mpSlots, page, spelled, attrsOf, printAttrs}
 use Rattle.paper.proofs.BySize.{rowSize, base}
 use Rattle.paper.proofs.AnyCut as C
 

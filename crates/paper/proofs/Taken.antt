@@ -1,17 +1,17 @@
 -- The machine takes each word of the grammar, and gives the tags that the grammar gives.
 use mathlib.Core.Path.{_≡_, refl, ap, sym, _∙_}
-use mathlib.Core.Bool.{Bool, true, false, not, _&&_, _||_, and-eq-true-iff}
-use mathlib.Core.Option.{Option, none, some}
+use mathlib.Core.Bool.{Bool, true, false, _||_}
+use mathlib.Core.Option.{some}
 use mathlib.Core.List.{List, [], _∷_, _++_, append-assoc, append-nil}
-use Prim.Native.Nat.{ℕ, zero, suc, _+_, _*_, _-_, _≤_, _<_}
+use Prim.Native.Nat.{ℕ}
 use native.Mathlib.Omega.{arith}
-use lib.Dec.{eqb, leb, ltb}
+use lib.Dec.{eqb}
 use lib.ListN.{length}
-use borrow.Author.Tests.{eqb-true, eqb-false, eq-eqb, ne-eqb, leb-true, le-leb}
-use Rattle.paper.specs.Lists.{bytes, if, All}
-use Rattle.paper.specs.Bytes.{isSpace, isDigit, isLetter, isAllowed}
-use Rattle.paper.specs.Grammar.{Attr, Tag, start, end, amp, lt, gt, quot, apos, plain, space, attr, done, bare, full, close, Space, isNameByte, isHex, Pass, Name, Some, Ref, Raw, Quote, double, single, Attrs, Rest, Page, ref, dec, hex}
-use Rattle.paper.specs.Machine.{InRef, State, Open, Half, Move, go, say, stop, before, after, less, tag, gap, slash, name, equals, quote, val, ref, inside, closing, amp0, ampa, num0, hex0, word, dec, hex, more, shut, up, gapStep, step, refStep, refGoes, prefix, follow, scan}
+use borrow.Author.Tests.{eqb-true, eq-eqb, ne-eqb}
+use Rattle.paper.specs.Lists.{All}
+use Rattle.paper.specs.Bytes.{isSpace, isDigit, isLetter}
+use Rattle.paper.specs.Grammar.{Attr, Tag, start, end, amp, lt, gt, quot, apos, plain, space, attr, done, bare, full, close, Space, isNameByte, isHex, Pass, Ref, Raw, Quote, double, single, Attrs, Rest, Page, ref, dec, hex}
+use Rattle.paper.specs.Machine.{Open, Half, go, before, tag, gap, name, equals, quote, val, ref, inside, closing, amp0, word, dec, hex, more, up, gapStep, prefix, scan}
 
 -- ---- one byte
 

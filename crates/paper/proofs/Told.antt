@@ -1,20 +1,20 @@
 -- A page without faults says only good elements, and it says an MP, a P and an A.
 use mathlib.Core.Path.{_≡_, refl, ap, sym, _∙_}
-use mathlib.Core.Bool.{Bool, true, false, not, _&&_, _||_}
+use mathlib.Core.Bool.{Bool, true, false, _&&_, _||_}
 use mathlib.Core.List.{List, [], _∷_, _++_}
-use Prim.Native.Nat.{ℕ, zero, suc, _+_, _*_, _-_, _≤_, _<_}
+use Prim.Native.Nat.{ℕ, zero, suc, _+_, _≤_}
 use native.Mathlib.Omega.{arith}
 use lib.Dec.{eqb, leb, ltb}
 use lib.ListN.{length, length-append}
 use borrow.Author.Tests.{eqb-true, eqb-false, eq-eqb, ne-eqb, leb-false}
-use Rattle.paper.specs.Lists.{bytes, if, same, every, isEmpty, some-of}
-use Rattle.paper.proofs.Small.{no, both, neither, no-not, and-intro}
+use Rattle.paper.specs.Lists.{bytes, if, every, isEmpty, some-of}
+use Rattle.paper.proofs.Small.{no, both, neither}
 use Rattle.paper.specs.Grammar.{Attr, Tag, start, end, Rest, Page, done, space, bare, full, close, placed}
-use Rattle.paper.specs.Fields.{Kind, unknown, MP, P, A, O, S, M, W, R, X, code, is, Field, fieldsOf, later, most-of}
+use Rattle.paper.specs.Fields.{Kind, unknown, MP, P, A, O, S, M, W, R, X, code, is, fieldsOf, later}
 use Rattle.paper.specs.Plan.{Slots, slot, blank}
-use Rattle.paper.specs.Judging.{Fault, fault, own, slotsOf, Frame, frame, Stack, kindIn, misplaced, howMany, enter, note, addW, next, here, faults, lacks, Item, item, early, says, items, part}
+use Rattle.paper.specs.Judging.{own, slotsOf, Frame, frame, Stack, kindIn, misplaced, howMany, enter, note, here, faults, lacks, Item, item, early, items, part}
 use Rattle.paper.specs.Writing.{goodElement, noneOf}
-use Rattle.paper.proofs.Given.{own-good, OwnFine, fault-nil, append-nil-both, fault-off}
+use Rattle.paper.proofs.Given.{own-good, OwnFine, fault-nil, append-nil-both}
 
 -- ---- the tags close what they open, and nothing comes after
 

@@ -1,9 +1,9 @@
 -- What was read is never refused with 1 or 13 by the writer; and written afresh twice it is the same.
-use mathlib.Core.Path.{_≡_, refl, ap, sym, _∙_}
+use mathlib.Core.Path.{_≡_, refl, sym, _∙_}
 use mathlib.Core.Logic.{_⊎_, inl, inr}
 use mathlib.Core.Bool.{Bool, true, false}
 use mathlib.Core.Option.{Option, none, some}
-use mathlib.Core.List.{List, [], _∷_, _++_}
+use mathlib.Core.List.{List, [], _∷_}
 use Prim.Native.Nat.{ℕ, suc, _≤_}
 use lib.Dec.{leb}
 use lib.ListN.{length}
@@ -12,11 +12,10 @@ use Rattle.paper.specs.Lists.{if}
 use Rattle.paper.proofs.Small.{no}
 use Rattle.paper.specs.Plan.{Plan, Row}
 use Rattle.paper.specs.Reading.{plan, read}
-use Rattle.paper.specs.Writing.{Written, written, tooLong, sound, pages}
+use Rattle.paper.specs.Writing.{written, tooLong, sound, pages}
 use Rattle.paper.proofs.BySize.{sized, laySized, greedy, none-cut}
 use Rattle.paper.proofs.Fewest.{Way, way, many, bad, long, laid}
 use Rattle.paper.proofs.ReadSound.{read-sound}
-use Rattle.paper.proofs.RoundTrip.{round-trip}
 
 lay-ends : (p : Plan) (o : Option (List (List Row))) → ((g : List (List ℕ)) × (laySized p o ≡ written g)) ⊎ ((r : ℕ) × (laySized p o ≡ tooLong r))
 lay-ends p none = inr (suc _, refl)

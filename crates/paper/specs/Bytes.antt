@@ -1,7 +1,7 @@
 -- Bytes: document 01, "Bytes and spelling", first paragraph. Which bytes are allowed, and the class of each.
 -- Assumes nothing.
-use mathlib.Core.Bool.{Bool, true, false, not, _&&_, _||_}
-use mathlib.Core.List.{List, [], _∷_}
+use mathlib.Core.Bool.{Bool, not, _&&_, _||_}
+use mathlib.Core.List.{List}
 use Prim.Native.Nat.{ℕ}
 use lib.Dec.{eqb, leb}
 use Rattle.paper.specs.Lists.{if, until}

@@ -3,21 +3,24 @@
 use mathlib.Core.Bool.{Bool, true, false, _&&_}
 use mathlib.Core.List.{List, [], _∷_}
 use Prim.Native.Nat.{ℕ, _+_}
-use lib.Dec.{eqb, leb}
+use lib.Dec.{leb}
 use lib.ListN.{length, take, drop}
 use Rattle.paper.specs.Lists.{if}
 use Rattle.paper.specs.Reading.{Answer, refusal, read}
 
--- the room of document 01: 256 rows, 12,600 bytes of text, 12,600 bytes for pages, 25,200 bytes for a listing
+-- "room for 256 rows"
 abbrev pub rowRoom : ℕ
 rowRoom = 256
 
+-- "and 12,600 bytes of text when reading"
 abbrev pub textRoom : ℕ
 textRoom = 12600
 
+-- "12,600 bytes for pages when writing"
 abbrev pub pageRoom : ℕ
 pageRoom = 12600
 
+-- "and 25,200 for a listing of pages"
 abbrev pub listingRoom : ℕ
 listingRoom = 25200
 
@@ -37,3 +40,19 @@ pagesAt b (s ∷ ss) (n ∷ ns) = take n (drop s b) ∷ pagesAt b ss ns
 -- the pages of a call, read, where `room` says that the lent room is not too small; "page count not 1..9, page outside the buffer, room too small"
 unfoldable pub readAt : Bool → List ℕ → List ℕ → List ℕ → Answer
 readAt room b ss ns = if (room && (leb 1 (length ss) && (leb (length ss) 9 && inside b ss ns))) (read (pagesAt b ss ns)) (refusal 1 0 0)
+
+-- so many rows and so many bytes of text are room enough
+abbrev pub roomy : ℕ → ℕ → Bool
+roomy rows text = leb rowRoom rows && leb textRoom text
+
+-- a call that reads pages, with so many rows and so many bytes of text lent
+unfoldable pub readCall : ℕ → ℕ → List ℕ → List ℕ → List ℕ → Answer
+readCall rows text b ss ns = readAt (roomy rows text) b ss ns
+
+-- a call that lists pages into so many bytes
+unfoldable pub listCall : ℕ → List ℕ → List ℕ → List ℕ → Answer
+listCall out b ss ns = readAt (leb listingRoom out) b ss ns
+
+-- a call that writes pages afresh into so many bytes: what it reads, before `fresh` writes it
+unfoldable pub freshCall : ℕ → List ℕ → List ℕ → List ℕ → Answer
+freshCall out b ss ns = readAt (leb pageRoom out) b ss ns

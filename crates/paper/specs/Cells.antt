@@ -6,7 +6,7 @@ use Prim.Native.Nat.{ℕ, zero, suc, _-_}
 use lib.Dec.{leb}
 use lib.ListN.{length, take}
 use Rattle.paper.specs.Lists.{bytes, if, isEmpty}
-use Rattle.paper.specs.Fields.{Kind, M, W, is, fieldsOf}
+use Rattle.paper.specs.Fields.{M, W, is, fieldsOf}
 use Rattle.paper.specs.Plan.{Slots, Row, slot, Dose, scheme, freeText, unstated, doseOf}
 use Rattle.paper.specs.Writing.{rowSlots}
 

@@ -1,14 +1,15 @@
 -- Collecting: document 01, "Refusal numbers and their order", last paragraph. The collector of single pages, as a state and what is asked of it.
 -- Assumes nothing.
-use mathlib.Core.Bool.{Bool, true, false, not, _&&_}
+use mathlib.Core.Bool.{Bool, true, not, _&&_}
 use mathlib.Core.List.{List, [], _∷_, _++_}
 use Prim.Native.Nat.{ℕ, zero, suc, _+_, _^_}
-use lib.Dec.{eqb}
-use lib.ListN.{length}
+use lib.Dec.{eqb, leb}
+use lib.ListN.{length, take, drop}
 use Rattle.paper.specs.Lists.{if, same}
 use Rattle.paper.specs.Plan.{sameHead}
 use Rattle.paper.specs.Judging.{Sheet, Judged, refused, sheet, judge}
-use Rattle.paper.specs.Reading.{Answer, has, read}
+use Rattle.paper.specs.Reading.{Answer, refusal, has, read}
+use Rattle.paper.specs.Calls.{roomy}
 
 -- a page that the collector has taken: its bytes, and what it says
 pub record Kept : Type 0 where
@@ -102,3 +103,13 @@ missingCount c = length (missingNumbers c)
 -- "Complete, it reads as the same pages handed in at once; incomplete, with 11; empty, with 1."
 unfoldable pub readCollected : Collector → Answer
 readCollected c = read (pagesIn c)
+
+-- ---- calls
+
+-- a page is handed in as a start and a length in a buffer; one that does not lie in it gives 1
+unfoldable pub addCall : Collector → List ℕ → ℕ → ℕ → Adding
+addCall c b s n = if (leb (s + n) (length b)) (add c (take n (drop s b))) (unchanged (refusedWith 1 0) c)
+
+-- the collector's reader needs the room that the reader needs
+unfoldable pub collectedCall : ℕ → ℕ → Collector → Answer
+collectedCall rows text c = if (roomy rows text) (readCollected c) (refusal 1 0 0)

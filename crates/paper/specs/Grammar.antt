@@ -3,10 +3,10 @@
 use mathlib.Core.Path.{_≡_}
 use mathlib.Core.Bool.{Bool, true, false, not, _&&_, _||_}
 use mathlib.Core.List.{List, [], _∷_, _++_}
-use Prim.Native.Nat.{ℕ, zero, suc, _+_, _*_, _-_, _≤_, _<_}
-use lib.Dec.{eqb, leb, ltb}
+use Prim.Native.Nat.{ℕ, _-_}
+use lib.Dec.{eqb, leb}
 use lib.ListN.{length}
-use Rattle.paper.specs.Lists.{bytes, if, All}
+use Rattle.paper.specs.Lists.{bytes, All}
 use Rattle.paper.specs.Bytes.{isSpace, isDigit, isLetter, isAllowed}
 
 -- an attribute as it stands: its name, and the bytes between its quotes

@@ -4,7 +4,7 @@
 use mathlib.Core.Bool.{Bool, true, false, not, _&&_, _||_}
 use mathlib.Core.Option.{Option, none, some}
 use mathlib.Core.List.{List, [], _∷_, _++_}
-use Prim.Native.Nat.{ℕ, zero, suc, _+_, _*_, _-_, _/_, _%_, _≤_, _<_}
+use Prim.Native.Nat.{ℕ, suc}
 use lib.Dec.{eqb, leb, ltb}
 use lib.ListN.{length}
 use Rattle.paper.specs.Lists.{bytes, if, same, isEmpty, elem, twice, every, some-of, number}

@@ -1,11 +1,11 @@
 -- Machine: the same pages, read one byte a step. By the theorems `exact` and `longest` it accepts exactly the grammar's pages, gives exactly
 -- their tags, and takes exactly the longest beginning that some well-formed page shares; so a reader who believes Grammar need not read this.
 -- Assumes nothing.
-use mathlib.Core.Bool.{Bool, true, false, not, _&&_, _||_}
+use mathlib.Core.Bool.{Bool, true, false, _&&_, _||_}
 use mathlib.Core.Option.{Option, none, some}
 use mathlib.Core.List.{List, [], _∷_, _++_}
-use Prim.Native.Nat.{ℕ, zero, suc, _+_, _*_, _-_, _≤_, _<_}
-use lib.Dec.{eqb, leb, ltb}
+use Prim.Native.Nat.{ℕ, suc}
+use lib.Dec.{eqb}
 use lib.ListN.{length}
 use Rattle.paper.specs.Lists.{if}
 use Rattle.paper.specs.Bytes.{isSpace, isDigit, isLetter}

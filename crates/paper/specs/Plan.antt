@@ -1,10 +1,10 @@
 -- Plan: document 01, "The plan, and when two are the same". A plan is a head and rows, and these are values: two plans are the same exactly
 -- when they are equal. A slot is a value's bytes, [] if it is absent; an element's slots stand in the table's order.
 -- Assumes nothing.
-use mathlib.Core.Bool.{Bool, true, false, not, _&&_, _||_}
-use mathlib.Core.List.{List, [], _∷_, _++_}
-use Prim.Native.Nat.{ℕ, zero, suc, _+_, _*_, _-_, _/_, _%_, _≤_, _<_}
-use lib.Dec.{eqb, leb, ltb}
+use mathlib.Core.Bool.{Bool, true, false, _&&_}
+use mathlib.Core.List.{List, [], _∷_}
+use Prim.Native.Nat.{ℕ}
+use lib.Dec.{eqb}
 use Prim.Native.String as Str
 use Rattle.paper.specs.Lists.{bytes, same, isEmpty, if}
 use Rattle.paper.specs.Fields.{Kind, M, Field, fieldsOf}

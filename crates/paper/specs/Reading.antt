@@ -1,13 +1,13 @@
 -- Reading: document 01, "Refusal numbers and their order". Pages to a plan, joined by what they say. The order in which they are handed in
 -- appears in refusals alone.
 -- Assumes nothing.
-use mathlib.Core.Bool.{Bool, true, false, not, _&&_, _||_}
+use mathlib.Core.Bool.{Bool, false, _&&_, _||_}
 use mathlib.Core.List.{List, [], _∷_, _++_}
-use Prim.Native.Nat.{ℕ, zero, suc, _+_, _*_, _-_, _/_, _%_, _≤_, _<_}
-use lib.Dec.{eqb, leb, ltb}
+use Prim.Native.Nat.{ℕ, zero, suc}
+use lib.Dec.{eqb, leb}
 use lib.ListN.{length}
 use Rattle.paper.specs.Lists.{if}
-use Rattle.paper.specs.Plan.{Head, Row, Plan, sameHead}
+use Rattle.paper.specs.Plan.{Row, Plan, sameHead}
 use Rattle.paper.specs.Judging.{Sheet, Judged, refused, sheet, judge}
 
 -- "An answer carries number, page, place"; else the plan

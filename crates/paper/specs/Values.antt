@@ -1,9 +1,9 @@
 -- Values: document 01, "Bytes and spelling". From the bytes between two quotes to a value, and from a value to its fresh spelling.
 -- Assumes nothing.
-use mathlib.Core.Bool.{Bool, true, false, not, _&&_, _||_}
+use mathlib.Core.Bool.{_||_}
 use mathlib.Core.List.{List, [], _∷_, _++_}
-use Prim.Native.Nat.{ℕ, zero, suc, _+_, _*_, _-_, _≤_, _<_}
-use lib.Dec.{eqb, leb, ltb}
+use Prim.Native.Nat.{ℕ, _+_, _*_, _-_}
+use lib.Dec.{eqb, leb}
 use Rattle.paper.specs.Lists.{bytes, if, same, number}
 use Rattle.paper.specs.Bytes.{isDecoded}
 

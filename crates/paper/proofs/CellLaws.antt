@@ -1,0 +1,392 @@
+-- The text of a printed cell: how long it is, where it comes from, what is marked, and which cells there are.
+-- Assumes nothing.
+use mathlib.Core.Path.{_≡_, refl, ap, sym, _∙_}
+use mathlib.Core.Logic.{_↔_}
+use mathlib.Core.Bool.{Bool, true, false, _&&_}
+use mathlib.Core.List.{List, [], _∷_}
+use Prim.Native.Nat.{ℕ, zero, suc, _-_, _≤_, _<_}
+use native.Mathlib.Omega.{arith}
+use lib.Dec.{leb}
+use lib.ListN.{length, take}
+use lib.Seq.{length-take-le, take-length}
+use borrow.Author.Tests.{leb-true, leb-false, le-leb}
+use Rattle.paper.specs.Lists.{bytes, if, isEmpty}
+use Rattle.paper.specs.Fields.{Kind, M, is, fieldsOf}
+use Rattle.paper.specs.Plan.{Row, slot, Dose, scheme, freeText, unstated, doseFrom, doseOf}
+use Rattle.paper.specs.Cells.{CellField, name, form, morning, midday, evening, night, freeDose, substance, strength, Cell, cell, noCell, ofM, ofW, cutTo, ownOr, timeCell, freeCell, ofThree, cellOf, cellIn}
+use Rattle.paper.proofs.Small.{no, both, and-intro, if-same}
+use Rattle.paper.proofs.Told.{is-eq}
+use Rattle.paper.proofs.Small.{unequal}
+
+-- ---- the words
+
+-- "Limits: name 50, substance 80, strength 15, form 7"
+pub data Limit : CellField → ℕ → Type 0 where
+  of-name : Limit name 50
+  of-substance : (i : ℕ) → Limit (substance i) 80
+  of-strength : (i : ℕ) → Limit (strength i) 15
+  of-form : Limit form 7
+
+-- the four times of day
+pub data Time : CellField → Type 0 where
+  in-morning : Time morning
+  at-midday : Time midday
+  in-evening : Time evening
+  at-night : Time night
+
+-- a dose cell: a time of day, or the free text
+pub data DoseCell : CellField → Type 0 where
+  timed-dose : {f : CellField} → Time f → DoseCell f
+  free-dose : DoseCell freeDose
+
+-- the plan's own value for a cell that has a limit
+abbrev pub own : CellField → Row → List ℕ
+own name r = ofM (bytes "a") r
+own form r = ofM (bytes "fd") r
+own (substance i) r = ofW (bytes "w") i (r .ws)
+own (strength i) r = ofW (bytes "s") i (r .ws)
+own morning r = []
+own midday r = []
+own evening r = []
+own night r = []
+own freeDose r = []
+
+-- the row of that number, counted from 1
+abbrev pub RowAt : List Row → ℕ → Row → Type 0
+RowAt [] n r = ⊥
+RowAt (x ∷ rs) zero r = ⊥
+RowAt (x ∷ rs) (suc zero) r = x ≡ r
+RowAt (x ∷ rs) (suc (suc n)) r = RowAt rs (suc n) r
+
+-- an index where there is one of three
+abbrev pub Indexed : CellField → Type 0
+Indexed name = Unit {0}
+Indexed form = Unit {0}
+Indexed (substance i) = (1 ≤ i) × (i ≤ 3)
+Indexed (strength i) = (1 ≤ i) × (i ≤ 3)
+Indexed morning = Unit {0}
+Indexed midday = Unit {0}
+Indexed evening = Unit {0}
+Indexed night = Unit {0}
+Indexed freeDose = Unit {0}
+
+-- ---- which cells there are
+
+-- a cell is no refusal
+not-none : {A : Type 0} (t : List ℕ) (d m : Bool) → noCell ≡ cell t d m → A
+not-none t d m e = unequal (cc)
+
+-- a cell is that of a medication row that is there
+pub row-cell : (rs : List Row) (n : ℕ) (f : CellField) (k t : List ℕ) (d m : Bool) → cellIn rs n f k ≡ cell t d m
+    → (r : Row) × RowAt rs n r × (r .kind ≡ M) × (cellOf r f k ≡ cell t d m)
+row-cell [] n f k t d m e = not-none t d m e
+row-cell (x ∷ rs) zero f k t d m e = not-none t d m e
+row-cell (x ∷ rs) (suc zero) f k t d m e = at (is (x .kind) M) refl e
+  where
+    at : (b : Bool) → is (x .kind) M ≡ b → if b (cellOf x f k) noCell ≡ cell t d m → (r : Row) × (x ≡ r) × (r .kind ≡ M) × (cellOf r f k ≡ cell t d m)
+    at true q e = (x, refl, is-eq (x .kind) M q, e)
+    at false q e = not-none t d m e
+row-cell (x ∷ rs) (suc (suc n)) f k t d m e = row-cell rs (suc n) f k t d m e
+
+-- the cell of the row of that number, by whether it is a medication
+at-row : (rs : List Row) (n : ℕ) (r : Row) (f : CellField) (k : List ℕ) (b : Bool) → RowAt rs n r → is (r .kind) M ≡ b → cellIn rs n f k ≡ if b (cellOf r f k) noCell
+at-row [] n r f k b a e = absurd a
+at-row (x ∷ rs) zero r f k b a e = absurd a
+at-row (x ∷ rs) (suc zero) r f k b a e = rw (a, e)
+at-row (x ∷ rs) (suc (suc n)) r f k b a e = at-row rs (suc n) r f k b a e
+
+-- the cell of a medication row
+pub cell-row : (rs : List Row) (n : ℕ) (r : Row) (f : CellField) (k : List ℕ) → RowAt rs n r → r .kind ≡ M → cellIn rs n f k ≡ cellOf r f k
+cell-row rs n r f k a e = at-row rs n r f k true a (ap (λ (j : Kind). is j M) e)
+
+-- a row that is no medication has no cell
+pub no-other-row : (rs : List Row) (n : ℕ) (r : Row) (f : CellField) (k : List ℕ) → RowAt rs n r → is (r .kind) M ≡ false → cellIn rs n f k ≡ noCell
+no-other-row rs n r f k a e = at-row rs n r f k false a e
+
+-- a row number 0 has none
+pub no-row-zero : (rs : List Row) (f : CellField) (k : List ℕ) → cellIn rs 0 f k ≡ noCell
+no-row-zero [] f k = refl
+no-row-zero (x ∷ rs) f k = refl
+
+-- nor has one beyond the rows
+pub no-row-beyond : (rs : List Row) (n : ℕ) (f : CellField) (k : List ℕ) → length rs < n → cellIn rs n f k ≡ noCell
+no-row-beyond [] n f k h = refl
+no-row-beyond (x ∷ rs) zero f k h = refl
+no-row-beyond (x ∷ rs) (suc zero) f k h = absurd (omega arith)
+no-row-beyond (x ∷ rs) (suc (suc n)) f k h = no-row-beyond rs (suc n) f k (omega arith)
+
+-- nor is there a substance or a strength outside 1 to 3
+pub no-fourth : (rs : List Row) (n i : ℕ) (k : List ℕ) → ofThree i ≡ false → (cellIn rs n (substance i) k ≡ noCell) × (cellIn rs n (strength i) k ≡ noCell)
+no-fourth [] n i k h = (refl, refl)
+no-fourth (x ∷ rs) zero i k h = (refl, refl)
+no-fourth (x ∷ rs) (suc zero) i k h = (rw h (if-same (is (x .kind) M) noCell), rw h (if-same (is (x .kind) M) noCell))
+no-fourth (x ∷ rs) (suc (suc n)) i k h = no-fourth rs (suc n) i k h
+
+-- there is a cell of that text
+abbrev Shown : Cell → Type 0
+Shown x = (t : List ℕ) × (d : Bool) × (m : Bool) × (x ≡ cell t d m)
+
+shown-cut : (n : ℕ) (v : List ℕ) → Shown (cutTo n v)
+shown-cut n v = at (leb (length v) n)
+  where
+    at : (b : Bool) → Shown (if b (cell v false false) (cell (take (n - 3) v) true false))
+    at true = (v, false, false, refl)
+    at false = (take (n - 3) v, true, false, refl)
+
+shown-three : (i n : ℕ) (v : List ℕ) → (1 ≤ i) × (i ≤ 3) → Shown (if (ofThree i) (cutTo n v) noCell)
+shown-three i n v h = rw (and-intro (leb 1 i) (leb i 3) (le-leb 1 i (h .0)) (le-leb i 3 (h .1))) (shown-cut n v)
+
+shown-time : (which : List ℕ → List ℕ → List ℕ → List ℕ → List ℕ) (D : Dose) → Shown (timeCell which D)
+shown-time which (scheme m d v h) = (which m d v h, false, isEmpty (which m d v h), refl)
+shown-time which (freeText t) = ([], false, false, refl)
+shown-time which unstated = ([], false, false, refl)
+
+shown-free : (D : Dose) → Shown (freeCell D)
+shown-free (scheme m d v h) = ([], false, false, refl)
+shown-free (freeText t) = (t, false, false, refl)
+shown-free unstated = ([], false, false, refl)
+
+shown : (r : Row) (f : CellField) (k : List ℕ) → Indexed f → Shown (cellOf r f k)
+shown r name k x = shown-cut 50 (ownOr (ofM (bytes "a") r) k)
+shown r form k x = shown-cut 7 (ownOr (ofM (bytes "fd") r) k)
+shown r (substance i) k x = shown-three i 80 (ownOr (ofW (bytes "w") i (r .ws)) k) x
+shown r (strength i) k x = shown-three i 15 (ownOr (ofW (bytes "s") i (r .ws)) k) x
+shown r morning k x = shown-time (λ m d v h. m) (doseOf r)
+shown r midday k x = shown-time (λ m d v h. d) (doseOf r)
+shown r evening k x = shown-time (λ m d v h. v) (doseOf r)
+shown r night k x = shown-time (λ m d v h. h) (doseOf r)
+shown r freeDose k x = shown-free (doseOf r)
+
+three : (i : ℕ) (y : Cell) (t : List ℕ) (d m : Bool) → if (ofThree i) y noCell ≡ cell t d m → (ofThree i ≡ true) × (y ≡ cell t d m)
+three i y t d m = at (ofThree i)
+  where
+    at : (b : Bool) → if b y noCell ≡ cell t d m → (b ≡ true) × (y ≡ cell t d m)
+    at true e = (refl, e)
+    at false e = not-none t d m e
+
+one-of-three : (i : ℕ) → ofThree i ≡ true → (1 ≤ i) × (i ≤ 3)
+one-of-three i e = let (a, b) = both (leb 1 i) (leb i 3) e in (leb-true 1 i a, leb-true i 3 b)
+
+indexed : (r : Row) (f : CellField) (k t : List ℕ) (d m : Bool) → cellOf r f k ≡ cell t d m → Indexed f
+indexed r name k t d m e = tt
+indexed r form k t d m e = tt
+indexed r (substance i) k t d m e = one-of-three i (three i (cutTo 80 (ownOr (ofW (bytes "w") i (r .ws)) k)) t d m e .0)
+indexed r (strength i) k t d m e = one-of-three i (three i (cutTo 15 (ownOr (ofW (bytes "s") i (r .ws)) k)) t d m e .0)
+indexed r morning k t d m e = tt
+indexed r midday k t d m e = tt
+indexed r evening k t d m e = tt
+indexed r night k t d m e = tt
+indexed r freeDose k t d m e = tt
+
+-- there is a cell exactly where the row is there and is a medication, and the index is one of three
+pub is-cell : (rs : List Row) (n : ℕ) (f : CellField) (k : List ℕ)
+    → ((t : List ℕ) × (d : Bool) × (m : Bool) × (cellIn rs n f k ≡ cell t d m)) ↔ ((r : Row) × RowAt rs n r × (r .kind ≡ M) × Indexed f)
+is-cell rs n f k = (there, back)
+  where
+    there : (t : List ℕ) × (d : Bool) × (m : Bool) × (cellIn rs n f k ≡ cell t d m) → (r : Row) × RowAt rs n r × (r .kind ≡ M) × Indexed f
+    there (t, d, m, e) = let (r, a, q, g) = row-cell rs n f k t d m e in (r, a, q, indexed r f k t d m g)
+
+    back : (r : Row) × RowAt rs n r × (r .kind ≡ M) × Indexed f → (t : List ℕ) × (d : Bool) × (m : Bool) × (cellIn rs n f k ≡ cell t d m)
+    back (r, a, q, x) = let (t, d, m, e) = shown r f k x in (t, d, m, cell-row rs n r f k a q ∙ e)
+
+-- ---- names, substances, strengths, forms
+
+-- where a text comes from: the plan's own value if that is present, else the catalogue
+pub data Source (v k : List ℕ) : List ℕ → Type 0 where
+  plans : (v ≡ [] → ⊥) → Source v k v
+  catalogues : v ≡ [] → Source v k k
+
+source : (v k : List ℕ) → Source v k (ownOr v k)
+source [] k = catalogues refl
+source (c ∷ v) k = plans (λ e. unequal (cc))
+
+-- what is shown of a text with limit n: all of it, or its first n − 3 bytes and the flag
+pub data Part (n : ℕ) (v : List ℕ) : List ℕ → Bool → Type 0 where
+  whole : length v ≤ n → Part n v v false
+  begun : n < length v → Part n v (take (n - 3) v) true
+
+cut-part : (n : ℕ) (v t : List ℕ) (d m : Bool) → cutTo n v ≡ cell t d m → Part n v t d × (m ≡ false)
+cut-part n v t d m = at (leb (length v) n) refl
+  where
+    at : (b : Bool) → leb (length v) n ≡ b → if b (cell v false false) (cell (take (n - 3) v) true false) ≡ cell t d m → Part n v t d × (m ≡ false)
+    at true q e =
+        let text : t ≡ v = cc in
+        let flag : d ≡ false = cc in
+        (rw (text, flag) (whole (leb-true (length v) n q)), cc)
+    at false q e =
+        let text : t ≡ take (n - 3) v = cc in
+        let flag : d ≡ true = cc in
+        (rw (text, flag) (begun (leb-false (length v) n q)), cc)
+
+-- such a cell is the plan's own value, or else the catalogue's text, cut to its limit
+limited : (r : Row) (n : ℕ) (f : CellField) (k t : List ℕ) (d m : Bool) → Limit f n → cellOf r f k ≡ cell t d m → cutTo n (ownOr (own f r) k) ≡ cell t d m
+limited r n f k t d m of-name e = e
+limited r n f k t d m (of-substance i) e = three i (cutTo 80 (ownOr (ofW (bytes "w") i (r .ws)) k)) t d m e .1
+limited r n f k t d m (of-strength i) e = three i (cutTo 15 (ownOr (ofW (bytes "s") i (r .ws)) k)) t d m e .1
+limited r n f k t d m of-form e = e
+
+-- what it shows, of which row and which text; it is not marked
+pub record Cut (rs : List Row) (j n : ℕ) (f : CellField) (k t : List ℕ) (d m : Bool) : Type 0 where
+  pub row : Row
+  pub there : RowAt rs j row
+  pub text : List ℕ
+  pub from : Source (own f row) k text
+  pub part : Part n text t d
+  pub unmarked : m ≡ false
+
+-- a cell with a limit shows just that
+pub part-of : (rs : List Row) (j n : ℕ) (f : CellField) (k t : List ℕ) (d m : Bool) → Limit f n → cellIn rs j f k ≡ cell t d m → Cut rs j n f k t d m
+part-of rs j n f k t d m l e =
+    let (r, a, q, g) = row-cell rs j f k t d m e in
+    let (p, u) = cut-part n (ownOr (own f r) k) t d m (limited r n f k t d m l g) in
+    record { row = r; there = a; text = ownOr (own f r) k; from = source (own f r) k; part = p; unmarked = u }
+
+-- so the text is a beginning of the plan's own value if that is present, else of the catalogue
+pub beginning : (n : ℕ) (v t : List ℕ) (d : Bool) → Part n v t d → (i : ℕ) × (t ≡ take i v)
+beginning n v t d (whole h) = (length v, sym (take-length v))
+beginning n v t d (begun h) = (n - 3, refl)
+
+-- without the flag it is at most its limit long
+pub whole-text : (rs : List Row) (j n : ℕ) (f : CellField) (k t : List ℕ) (m : Bool) → Limit f n → cellIn rs j f k ≡ cell t false m → length t ≤ n
+whole-text rs j n f k t m l e = let C = part-of rs j n f k t false m l e in at (C .text) t false (C .part) refl
+  where
+    at : (v t : List ℕ) (d : Bool) → Part n v t d → d ≡ false → length t ≤ n
+    at v t d (whole h) e = h
+    at v t d (begun h) e = no e
+
+-- with the flag it is exactly three bytes shorter than its limit
+pub cut-text : (rs : List Row) (j n : ℕ) (f : CellField) (k t : List ℕ) (m : Bool) → Limit f n → cellIn rs j f k ≡ cell t true m → length t ≡ n - 3
+cut-text rs j n f k t m l e = let C = part-of rs j n f k t true m l e in at (C .text) t true (C .part) refl
+  where
+    at : (v t : List ℕ) (d : Bool) → Part n v t d → d ≡ true → length t ≡ n - 3
+    at v t d (whole h) e = no (sym e)
+    at v t d (begun h) e = length-take-le (n - 3) v (omega arith)
+
+-- ---- doses
+
+-- which of the four times a time of day shows
+abbrev Which : Type 0
+Which = List ℕ → List ℕ → List ℕ → List ℕ → List ℕ
+
+time-shows : (f : CellField) → Time f → (w : Which) × ((r : Row) (k : List ℕ) → cellOf r f k ≡ timeCell w (doseOf r))
+time-shows f in-morning = (λ m d v h. m, λ r k. refl)
+time-shows f at-midday = (λ m d v h. d, λ r k. refl)
+time-shows f in-evening = (λ m d v h. v, λ r k. refl)
+time-shows f at-night = (λ m d v h. h, λ r k. refl)
+
+dose-same : (r : Row) (f : CellField) (k k′ : List ℕ) → DoseCell f → cellOf r f k ≡ cellOf r f k′
+dose-same r f k k′ (timed-dose x) = let (w, e) = time-shows f x in e r k ∙ sym (e r k′)
+dose-same r f k k′ free-dose = refl
+
+-- a dose cell does not depend on the catalogue
+pub no-catalogue : (rs : List Row) (j : ℕ) (f : CellField) (k k′ : List ℕ) → DoseCell f → cellIn rs j f k ≡ cellIn rs j f k′
+no-catalogue [] j f k k′ d = refl
+no-catalogue (x ∷ rs) zero f k k′ d = refl
+no-catalogue (x ∷ rs) (suc zero) f k k′ d = ap (λ (c : Cell). if (is (x .kind) M) c noCell) (dose-same x f k k′ d)
+no-catalogue (x ∷ rs) (suc (suc j)) f k k′ d = no-catalogue rs (suc j) f k k′ d
+
+time-uncut : (w : Which) (D : Dose) (t : List ℕ) (d m : Bool) → timeCell w D ≡ cell t d m → d ≡ false
+time-uncut w (scheme a b c h) t d m e = cc
+time-uncut w (freeText x) t d m e = cc
+time-uncut w unstated t d m e = cc
+
+free-plain : (D : Dose) (t : List ℕ) (d m : Bool) → freeCell D ≡ cell t d m → (d ≡ false) × (m ≡ false)
+free-plain (scheme a b c h) t d m e = (cc, cc)
+free-plain (freeText x) t d m e = (cc, cc)
+free-plain unstated t d m e = (cc, cc)
+
+-- and is never cut
+pub never-cut : (rs : List Row) (j : ℕ) (f : CellField) (k t : List ℕ) (d m : Bool) → DoseCell f → cellIn rs j f k ≡ cell t d m → d ≡ false
+never-cut rs j f k t d m x e = let (r, a, q, g) = row-cell rs j f k t d m e in at f x r g
+  where
+    at : (f : CellField) → DoseCell f → (r : Row) → cellOf r f k ≡ cell t d m → d ≡ false
+    at f (timed-dose y) r g = let (w, s) = time-shows f y in time-uncut w (doseOf r) t d m (sym (s r k) ∙ g)
+    at f free-dose r g = free-plain (doseOf r) t d m g .0
+
+-- a row's dose that is four times of day has one that is present
+some-time : (m d v h t a b c e : List ℕ) → doseFrom m d v h t ≡ scheme a b c e → (isEmpty a && (isEmpty b && (isEmpty c && isEmpty e))) ≡ false
+some-time m d v h (x ∷ t) a b c e q = unequal (cc)
+some-time m d v h [] a b c e q = at (isEmpty m && (isEmpty d && (isEmpty v && isEmpty h))) refl q
+  where
+    at : (x : Bool) → (isEmpty m && (isEmpty d && (isEmpty v && isEmpty h))) ≡ x → if x unstated (scheme m d v h) ≡ scheme a b c e → (isEmpty a && (isEmpty b && (isEmpty c && isEmpty e))) ≡ false
+    at true y q = unequal (cc)
+    at false y q =
+        let p₁ : m ≡ a = cc in
+        let p₂ : d ≡ b = cc in
+        let p₃ : v ≡ c = cc in
+        let p₄ : h ≡ e = cc in
+        rw (sym p₁, sym p₂, sym p₃, sym p₄) y
+
+-- another time of the row, which is there
+abbrev Beside : Row → List ℕ → Type 0
+Beside r k = (g : CellField) × (c : ℕ) × (v : List ℕ) × Time g × (cellOf r g k ≡ cell (c ∷ v) false false)
+
+beside : (r : Row) (k m d v h : List ℕ) → doseOf r ≡ scheme m d v h → (isEmpty m && (isEmpty d && (isEmpty v && isEmpty h))) ≡ false → Beside r k
+beside r k (c ∷ m) d v h e n = (morning, c, m, in-morning, ap (timeCell (λ m d v h. m)) e)
+beside r k [] (c ∷ d) v h e n = (midday, c, d, at-midday, ap (timeCell (λ m d v h. d)) e)
+beside r k [] [] (c ∷ v) h e n = (evening, c, v, in-evening, ap (timeCell (λ m d v h. v)) e)
+beside r k [] [] [] (c ∷ h) e n = (night, c, h, at-night, ap (timeCell (λ m d v h. h)) e)
+beside r k [] [] [] [] e n = no n
+
+-- a value of a medication row, as its dose looks at it
+abbrev timeOf : List ℕ → Row → List ℕ
+timeOf n r = slot n (fieldsOf M) ([] ∷ r .slots)
+
+empty-nil : (v : List ℕ) → isEmpty v ≡ true → v ≡ []
+empty-nil [] e = refl
+empty-nil (c ∷ v) e = no (sym e)
+
+marked-time : (w : Which) (r : Row) (k t : List ℕ) (d : Bool) (D : Dose) → doseOf r ≡ D → timeCell w D ≡ cell t d true → (t ≡ []) × Beside r k
+marked-time w r k t d (scheme a b c h) q e =
+    let shows : w a b c h ≡ t = cc in
+    let nil : isEmpty (w a b c h) ≡ true = cc in
+    (sym shows ∙ empty-nil (w a b c h) nil, beside r k a b c h q (some-time (timeOf (bytes "m") r) (timeOf (bytes "d") r) (timeOf (bytes "v") r) (timeOf (bytes "h") r) (timeOf (bytes "t") r) a b c h q))
+marked-time w r k t d (freeText x) q e = let z : false ≡ true = cc in no (sym z)
+marked-time w r k t d unstated q e = let z : false ≡ true = cc in no (sym z)
+
+-- a field has a limit, or is a dose
+data Sort (f : CellField) : Type 0 where
+  by-limit : (n : ℕ) → Limit f n → Sort f
+  by-dose : DoseCell f → Sort f
+
+sort : (f : CellField) → Sort f
+sort name = by-limit 50 of-name
+sort form = by-limit 7 of-form
+sort (substance i) = by-limit 80 (of-substance i)
+sort (strength i) = by-limit 15 (of-strength i)
+sort morning = by-dose (timed-dose in-morning)
+sort midday = by-dose (timed-dose at-midday)
+sort evening = by-dose (timed-dose in-evening)
+sort night = by-dose (timed-dose at-night)
+sort freeDose = by-dose free-dose
+
+-- a marked cell is a time of day that is empty, and another time of that row is there
+pub marked : (rs : List Row) (j : ℕ) (f : CellField) (k t : List ℕ) (d : Bool) → cellIn rs j f k ≡ cell t d true
+    → Time f × (t ≡ []) × ((g : CellField) × (c : ℕ) × (v : List ℕ) × Time g × (cellIn rs j g k ≡ cell (c ∷ v) false false))
+marked rs j f k t d e = let (r, a, q, g) = row-cell rs j f k t d true e in at f (sort f) e r a q g
+  where
+    dose : (f : CellField) → DoseCell f → (r : Row) → cellOf r f k ≡ cell t d true → Time f × (t ≡ []) × Beside r k
+    dose f (timed-dose y) r g = let (w, s) = time-shows f y in let (n, b) = marked-time w r k t d (doseOf r) refl (sym (s r k) ∙ g) in (y, n, b)
+    dose f free-dose r g = no (free-plain (doseOf r) t d true g .1)
+
+    at : (f : CellField) → Sort f → cellIn rs j f k ≡ cell t d true → (r : Row) → RowAt rs j r → r .kind ≡ M → cellOf r f k ≡ cell t d true
+        → Time f × (t ≡ []) × ((g : CellField) × (c : ℕ) × (v : List ℕ) × Time g × (cellIn rs j g k ≡ cell (c ∷ v) false false))
+    at f (by-limit n l) e r a q g = no (part-of rs j n f k t d true l e .unmarked)
+    at f (by-dose x) e r a q g = let (y, n, b) = dose f x r g in let (o, c, v, z, s) = b in (y, n, (o, c, v, z, cell-row rs j r o k a q ∙ s))
+
+-- where another time of the row is there, a time is marked exactly if it is empty
+pub marked-beside : (rs : List Row) (j : ℕ) (f g : CellField) (k t : List ℕ) (c : ℕ) (v : List ℕ) (d m : Bool) → Time f → Time g
+    → cellIn rs j g k ≡ cell (c ∷ v) false false → cellIn rs j f k ≡ cell t d m → m ≡ isEmpty t
+marked-beside rs j f g k t c v d m x y p q =
+    let (r, a, o, e) = row-cell rs j g k (c ∷ v) false false p in
+    let (w, s) = time-shows f x in
+    let (u, n) = time-shows g y in
+    at w u (doseOf r) (sym (n r k) ∙ e) (sym (s r k) ∙ (sym (cell-row rs j r f k a o) ∙ q))
+  where
+    at : (w u : Which) (D : Dose) → timeCell u D ≡ cell (c ∷ v) false false → timeCell w D ≡ cell t d m → m ≡ isEmpty t
+    at w u (scheme a b o h) p q =
+        let shows : w a b o h ≡ t = cc in
+        let mark : isEmpty (w a b o h) ≡ m = cc in
+        sym mark ∙ ap isEmpty shows
+    at w u (freeText b) p q = unequal (cc)
+    at w u unstated p q = unequal (cc)
