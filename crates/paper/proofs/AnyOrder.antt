@@ -31,7 +31,7 @@ perm-length (trans p q) = perm-length p ∙ perm-length q
 
 -- ---- equal tests
 
-slots-eq : (a b : Slots) → sameSlots a b ≡ true → a ≡ b
+pub slots-eq : (a b : Slots) → sameSlots a b ≡ true → a ≡ b
 slots-eq [] [] e = refl
 slots-eq [] (y ∷ t) e = no (sym e)
 slots-eq (x ∷ s) [] e = no (sym e)

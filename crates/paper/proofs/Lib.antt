@@ -37,3 +37,5 @@ pub mod Collected
 pub mod MissingMask
 pub mod CellLaws
 pub mod CallLaws
+pub mod NineCases
+pub mod Examples
