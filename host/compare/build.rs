@@ -3,7 +3,8 @@
 use std::path::PathBuf;
 
 fn main() {
-    let here = PathBuf::from(std::env::var("CARGO_MANIFEST_DIR").expect("cargo names the crate's folder"));
+    let here =
+        PathBuf::from(std::env::var("CARGO_MANIFEST_DIR").expect("cargo names the crate's folder"));
     let arch = std::env::var("CARGO_CFG_TARGET_ARCH").expect("cargo names the processor");
     let folder = here.join(format!("../../target/native/{arch}-unknown-linux-gnu"));
     let archive = folder.join("libprobe.a");

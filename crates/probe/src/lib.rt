@@ -2,6 +2,22 @@
 // They are no part of the product's border, which is the crate `tollgilt`.
 ghost use mathlib.Core.Path.{_≡_};
 ghost use Rattle.paper.specs.Bytes.{classOf, classNumber, firstRefused};
+use fields::dose::is_zero;
+use fields::lookup::child;
+use fields::lookup::count_of;
+use fields::lookup::field;
+use fields::lookup::first_of;
+use fields::lookup::rule_of;
+use fields::rules::keeps_field;
+use markup::scan::Extent;
+use markup::scan::scan;
+use markup::values::decode;
+use markup::values::spell;
+use markup::values::spelled_len;
+use markup::walk::Mark;
+use markup::walk::Piece;
+use markup::walk::next_attr;
+use markup::walk::next_tag;
 
 // The class of a byte as a number.
 #[no_mangle]
@@ -17,4 +33,125 @@ pub extern "C" fn probe_first_refused(s: &[u8]) -> usize
     ensures { λ r. ⌜ r ≡ firstRefused (now (s .entry)) ⌝ }
 {
     marks::first_refused(s)
+}
+
+// How many bytes of a page of at most 1,400 are a good beginning; 2,000 for a whole page, and 3,000 for one that is too long.
+#[no_mangle]
+pub extern "C" fn probe_scan(page: &[u8]) -> usize {
+    if page.len() > 1400 {
+        return 3000;
+    }
+    let extent = scan(page);
+    match extent {
+        Extent::Whole => 2000,
+        Extent::Good(n) => n,
+    }
+}
+
+// The value of the bytes between two quotes, laid at the beginning of `out`: its length, or a million if the room is too small.
+#[no_mangle]
+pub extern "C" fn probe_value(raw: &[u8], out: &mut [u8]) -> u64 {
+    if out.len() < raw.len() {
+        return 1000000;
+    }
+    decode(raw, 0, raw.len(), out, 0) as u64
+}
+
+// The fresh spelling of a value, laid at the beginning of `out`: its length, or a million if the room is too small or the value too long.
+#[no_mangle]
+pub extern "C" fn probe_spell(value: &[u8], out: &mut [u8]) -> u64 {
+    if value.len() > 100000 {
+        return 1000000;
+    }
+    if out.len() < spelled_len(value, 0, value.len()) {
+        return 1000000;
+    }
+    spell(value, 0, value.len(), out, 0) as u64
+}
+
+// The kind of the next tag from `at` on (0 none left, 1 start, 2 end), with its place and the end of its name.
+#[no_mangle]
+pub extern "C" fn probe_next_tag(page: &[u8], at: usize, told: &mut [usize; 2]) -> u8 {
+    if at > page.len() {
+        return 0;
+    }
+    let mark = next_tag(page, at);
+    match mark {
+        Mark::Start { at: i, name_end } => {
+            told[0] = i;
+            told[1] = name_end;
+            1
+        }
+        Mark::End { at: i } => {
+            told[0] = i;
+            2
+        }
+        Mark::Nothing => 0,
+    }
+}
+
+// The next piece of a start tag from `at` on (0 its end, 1 its end where it closes itself, 2 an attribute), with the ends of its name and raw value.
+#[no_mangle]
+pub extern "C" fn probe_next_attr(page: &[u8], at: usize, told: &mut [usize; 4]) -> u8 {
+    if at > page.len() {
+        return 0;
+    }
+    let piece = next_attr(page, at);
+    match piece {
+        Piece::Stop { shut } => {
+            if shut {
+                return 1;
+            }
+            0
+        }
+        Piece::Attribute {
+            name_at,
+            name_end,
+            raw_at,
+            raw_end,
+        } => {
+            told[0] = name_at;
+            told[1] = name_end;
+            told[2] = raw_at;
+            told[3] = raw_end;
+            2
+        }
+    }
+}
+
+// The number of the element of that name under a parent (10 for none): 0 if it is unknown there.
+#[no_mangle]
+pub extern "C" fn probe_child(parent: u8, name: &[u8]) -> u8 {
+    if parent > 10 {
+        return 0;
+    }
+    child(parent, name)
+}
+
+// The place in the table of the field of that name in an element, or 52 if it is unknown there.
+#[no_mangle]
+pub extern "C" fn probe_field(element: u8, name: &[u8]) -> usize {
+    if element > 9 {
+        return 52;
+    }
+    let j = field(element, name);
+    if j < count_of(element) {
+        return first_of(element) + j;
+    }
+    52
+}
+
+// Whether a value keeps the field at a place of the table: 0 no, 1 yes, 2 it is a dose of exactly 0, which reads as absent.
+#[no_mangle]
+pub extern "C" fn probe_keeps(id: usize, value: &[u8]) -> u8 {
+    if id > 51 {
+        return 0;
+    }
+    if is_zero(rule_of(id), value) {
+        return 2;
+    }
+    if keeps_field(id, value) {
+        return 1;
+    }
+    0
 }

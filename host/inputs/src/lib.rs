@@ -14,6 +14,7 @@ pub mod random;
 pub mod references;
 pub mod spelling;
 pub mod values;
+pub mod vectors;
 
 pub use case::{case, kinds, meant_listing, meant_refusal, Case};
 pub use fields::FIELDS;

@@ -1,9 +1,8 @@
 //! The vectors that the repository carries: every listing and every fresh page as written there.
 
+use inputs::vectors::{carried, named, Vector};
 use second::{planlist, read, write, Refusal};
 use std::collections::BTreeSet;
-use std::fs::read_to_string;
-use std::path::Path;
 
 /// The kinds of case that the vectors have.
 const KINDS: [&str; 14] = [
@@ -23,81 +22,6 @@ const KINDS: [&str; 14] = [
     "writer",
 ];
 
-/// One case of the vectors.
-struct Vector {
-    line: usize,
-    kind: String,
-    pages: Vec<Vec<u8>>,
-    listing: Vec<u8>,
-    fresh: Result<Vec<Vec<u8>>, Refusal>,
-}
-
-/// Takes the lines of a file of vectors apart; `bytes` reads one page or listing in the file's form.
-fn vectors(path: &Path, bytes: fn(&str) -> Vec<u8>) -> Vec<Vector> {
-    let file = read_to_string(path).unwrap_or_else(|error| panic!("{}: {error}", path.display()));
-    let lines = file
-        .lines()
-        .enumerate()
-        .filter(|(_, line)| !line.starts_with('#'));
-    lines
-        .map(|(place, line)| vector(place + 1, line, bytes))
-        .collect()
-}
-
-fn vector(line: usize, text: &str, bytes: fn(&str) -> Vec<u8>) -> Vector {
-    let columns: Vec<&str> = text.split('\t').collect();
-    let [kind, pages, listing, fresh] = columns[..] else {
-        panic!("line {line} has {} columns", columns.len());
-    };
-    Vector {
-        line,
-        kind: kind.to_string(),
-        pages: pages.split(',').map(bytes).collect(),
-        listing: bytes(listing),
-        fresh: match fresh.strip_prefix("refused:") {
-            Some(numbers) => Err(refusal(line, numbers)),
-            None => Ok(fresh.split(',').map(bytes).collect()),
-        },
-    }
-}
-
-fn refusal(line: usize, numbers: &str) -> Refusal {
-    let parsed: Vec<usize> = numbers
-        .split(':')
-        .map(|number| number.parse().unwrap())
-        .collect();
-    let [number, page, place] = parsed[..] else {
-        panic!("line {line} has a refusal of {} numbers", parsed.len());
-    };
-    Refusal {
-        number: number as u8,
-        page,
-        place,
-    }
-}
-
-fn hexadecimal(digits: &str) -> Vec<u8> {
-    let bare = digits.replace('-', "");
-    let pairs = bare
-        .as_bytes()
-        .chunks(2)
-        .map(|pair| std::str::from_utf8(pair).unwrap());
-    pairs
-        .map(|pair| u8::from_str_radix(pair, 16).unwrap())
-        .collect()
-}
-
-/// Bytes as themselves, or as `%XX`.
-fn readable(text: &str) -> Vec<u8> {
-    let mut pieces = text.split('%');
-    let mut bytes = pieces.next().unwrap_or("").as_bytes().to_vec();
-    for piece in pieces {
-        bytes.extend(hexadecimal(&piece[..2]));
-        bytes.extend(piece[2..].as_bytes());
-    }
-    bytes
-}
-
 /// What is wrong with the answers to one case, if anything is.
 fn faults(vector: &Vector) -> Vec<String> {
     let mut faults = Vec::new();
@@ -110,7 +34,9 @@ fn faults(vector: &Vector) -> Vec<String> {
         ));
     }
     let pages: Vec<&[u8]> = vector.pages.iter().map(Vec::as_slice).collect();
-    let fresh = read(&pages).and_then(|plan| write(&plan));
+    let fresh = read(&pages)
+        .and_then(|plan| write(&plan))
+        .map_err(|refusal: Refusal| [refusal.number.into(), refusal.page, refusal.place]);
     if fresh != vector.fresh {
         let (given, right) = (shown(&fresh), shown(&vector.fresh));
         faults.push(format!(
@@ -120,7 +46,7 @@ fn faults(vector: &Vector) -> Vec<String> {
     faults
 }
 
-fn shown(fresh: &Result<Vec<Vec<u8>>, Refusal>) -> String {
+fn shown(fresh: &Result<Vec<Vec<u8>>, [usize; 3]>) -> String {
     match fresh {
         Err(refusal) => format!("{refusal:?}"),
         Ok(pages) => {
@@ -148,11 +74,6 @@ fn check(vectors: &[Vector]) {
     );
 }
 
-fn carried() -> Vec<Vector> {
-    let path = Path::new(env!("CARGO_MANIFEST_DIR")).join("../vectors/sheets.tsv");
-    vectors(&path, readable)
-}
-
 #[test]
 fn every_carried_vector_is_answered_as_written() {
     check(&carried());
@@ -167,7 +88,7 @@ fn carried_vectors_have_every_kind_and_every_refusal() {
     let refused = vectors
         .iter()
         .filter_map(|vector| vector.fresh.as_ref().err());
-    let numbers: BTreeSet<u8> = refused.map(|refusal| refusal.number).collect();
+    let numbers: BTreeSet<usize> = refused.map(|refusal| refusal[0]).collect();
     assert_eq!(numbers, (1..=12).chain([14]).collect());
     let fresh: BTreeSet<usize> = vectors
         .iter()
@@ -179,20 +100,8 @@ fn carried_vectors_have_every_kind_and_every_refusal() {
     );
 }
 
-/// The environment variable TOLLGILT_VECTORS may name a file of many more vectors, in hexadecimal digits.
+/// The environment variable TOLLGILT_VECTORS may name a file of many more vectors.
 #[test]
 fn every_vector_of_the_named_file_is_answered_as_written() {
-    if let Some(path) = std::env::var_os("TOLLGILT_VECTORS") {
-        let vectors = vectors(Path::new(&path), hexadecimal);
-        assert!(!vectors.is_empty(), "the named file has no vectors");
-        check(&vectors);
-    }
-}
-
-#[test]
-fn both_forms_of_bytes_are_read() {
-    assert_eq!(readable("a%25%2C%0Ab"), b"a%,\nb");
-    assert_eq!(readable(""), b"");
-    assert_eq!(hexadecimal("3c4d"), b"<M");
-    assert_eq!(hexadecimal("-"), b"");
+    check(&named());
 }

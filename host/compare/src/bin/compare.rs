@@ -1,15 +1,18 @@
 //! `compare FIRST COUNT`: compares the proved layers with the second program on the inputs of COUNT seeds from FIRST on.
 
-use compare::rounds::{classes, differences};
+use compare::rounds::{differences, tables};
 
 fn main() {
-    let numbers: Vec<u64> = std::env::args().skip(1).filter_map(|word| word.parse().ok()).collect();
+    let numbers: Vec<u64> = std::env::args()
+        .skip(1)
+        .filter_map(|word| word.parse().ok())
+        .collect();
     let [first, count] = numbers[..] else {
         eprintln!("usage: compare FIRST COUNT");
         std::process::exit(2);
     };
     println!("seeds {first} to {}", first + count - 1);
-    let mut failed = u64::from(!classes().is_empty());
+    let mut failed = u64::from(!tables().is_empty());
     for seed in first..first + count {
         let found = differences(seed);
         for line in &found {

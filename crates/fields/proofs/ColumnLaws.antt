@@ -1,0 +1,196 @@
+-- ColumnLaws: what stands in the columns at a place is what paper's table has there.
+-- Assumes nothing.
+use mathlib.Core.Path.{_≡_, refl, sym, ap, _∙_}
+use mathlib.Core.Bool.{Bool, true, false, not, _&&_, _||_}
+use mathlib.Core.List.{List, [], _∷_, map}
+use Prim.Native.Nat.{ℕ, zero, suc, _+_, _≤_, _<_}
+use native.Mathlib.Omega.{arith}
+use lib.Dec.{eqb, leb, ltb}
+use lib.ListN.{length, take, drop, getD, List·getD-map}
+use lib.Seq.{getD-take, getD-drop}
+use borrow.Author.Tests.{eqb-true, leb-true}
+use Rattle.paper.specs.Lists.{same, every}
+use Rattle.paper.specs.Fields.{Kind, unknown, MP, P, A, O, S, M, W, R, X, code, Field, table, fieldsOf, tagName, excluded, most-of}
+use Rattle.paper.proofs.Small.{both, below-at, same-eq}
+use Rattle.fields.specs.Places.{kindAt, ruleNumber, noField, fieldAt, firstOf, countOf, under, rankOf, onesOf, othersOf, keyOf}
+use Rattle.fields.specs.Columns.{bit, keyColumn, elementColumn, ruleColumn, leastColumn, mostColumn, tildeColumn, mustColumn, firstColumn, countColumn, childKeyColumn, childKindColumn, childFirstColumn, childCountColumn, limitColumn, tagColumn, rankColumn, oneColumn, otherColumn, pairFirstColumn, pairCountColumn}
+
+-- ---- a field's columns
+
+-- an entry of a list within its length, whatever stands beyond it
+getD-of : {A : Type 0} (f : A → ℕ) (l : List A) (i : ℕ) (d : A) → i < length l → getD (map f l) i 0 ≡ f (getD l i d)
+getD-of f [] i d h = absurd (omega arith)
+getD-of f (x ∷ l) zero d h = refl
+getD-of f (x ∷ l) (suc i) d h = getD-of f l i d (omega arith)
+
+-- the letters of a field
+pub letters-at : (id : ℕ) → id < 52 → getD keyColumn id 0 ≡ keyOf (fieldAt id .letters)
+unfolding keyColumn fieldAt
+letters-at id h = getD-of (λ (f : Field). keyOf (f .letters)) table id noField h
+
+-- its element
+pub element-at : (id : ℕ) → getD elementColumn id 0 ≡ code (fieldAt id .element)
+unfolding elementColumn fieldAt
+element-at id = List·getD-map (λ (f : Field). code (f .element)) table id noField
+
+-- the rule of a field
+pub rule-at : (id : ℕ) → getD ruleColumn id 0 ≡ ruleNumber (fieldAt id .rule)
+unfolding ruleColumn fieldAt
+rule-at id = List·getD-map (λ (f : Field). ruleNumber (f .rule)) table id noField
+
+-- its least length
+pub least-at : (id : ℕ) → getD leastColumn id 0 ≡ fieldAt id .least
+unfolding leastColumn fieldAt
+least-at id = List·getD-map (λ (f : Field). f .least) table id noField
+
+-- its greatest length
+pub most-at : (id : ℕ) → getD mostColumn id 0 ≡ fieldAt id .most
+unfolding mostColumn fieldAt
+most-at id = List·getD-map (λ (f : Field). f .most) table id noField
+
+-- how many line breaks it may have
+pub tilde-at : (id : ℕ) → getD tildeColumn id 0 ≡ fieldAt id .tildes
+unfolding tildeColumn fieldAt
+tilde-at id = List·getD-map (λ (f : Field). f .tildes) table id noField
+
+-- whether it must be present
+pub must-at : (id : ℕ) → getD mustColumn id 0 ≡ bit (fieldAt id .must)
+unfolding mustColumn fieldAt
+must-at id = List·getD-map (λ (f : Field). bit (f .must)) table id noField
+
+-- the number of a truth value is 1 just for the true one
+pub bit-one : (b : Bool) → eqb (bit b) 1 ≡ b
+bit-one true = refl
+bit-one false = refl
+
+-- ---- an element's columns
+
+-- the place of an element's first field
+pub first-at : (e : ℕ) → e < 10 → getD firstColumn e 0 ≡ firstOf (kindAt e)
+unfolding firstColumn firstOf kindAt
+first-at e h = eqb-true (getD firstColumn e 0) (firstOf (kindAt e)) (below-at 10 (λ (n : ℕ). eqb (getD firstColumn n 0) (firstOf (kindAt n))) refl e h)
+
+-- how many fields an element has
+pub count-at : (e : ℕ) → e < 10 → getD countColumn e 0 ≡ countOf (kindAt e)
+unfolding countColumn countOf kindAt fieldsOf
+count-at e h = eqb-true (getD countColumn e 0) (countOf (kindAt e)) (below-at 10 (λ (n : ℕ). eqb (getD countColumn n 0) (countOf (kindAt n))) refl e h)
+
+-- how many of an element its parent may have
+pub limit-at : (e : ℕ) → e < 10 → getD limitColumn e 0 ≡ most-of (kindAt e)
+unfolding limitColumn kindAt
+limit-at e h = eqb-true (getD limitColumn e 0) (most-of (kindAt e)) (below-at 10 (λ (n : ℕ). eqb (getD limitColumn n 0) (most-of (kindAt n))) refl e h)
+
+-- the name of an element
+pub tag-at : (e : ℕ) → e < 10 → getD tagColumn e 0 ≡ keyOf (tagName (kindAt e))
+unfolding tagColumn kindAt
+tag-at e h = eqb-true (getD tagColumn e 0) (keyOf (tagName (kindAt e))) (below-at 10 (λ (n : ℕ). eqb (getD tagColumn n 0) (keyOf (tagName (kindAt n)))) refl e h)
+
+-- the rank of an element inside MP
+pub rank-at : (e : ℕ) → e < 10 → getD rankColumn e 0 ≡ rankOf (kindAt e)
+unfolding rankColumn kindAt
+rank-at e h = eqb-true (getD rankColumn e 0) (rankOf (kindAt e)) (below-at 10 (λ (n : ℕ). eqb (getD rankColumn n 0) (rankOf (kindAt n))) refl e h)
+
+-- how many excluded pairs an element has
+pub pairs-at : (e : ℕ) → e < 10 → getD pairCountColumn e 0 ≡ length (excluded (kindAt e))
+unfolding pairCountColumn kindAt
+pairs-at e h =
+    eqb-true (getD pairCountColumn e 0) (length (excluded (kindAt e))) (below-at 10 (λ (n : ℕ). eqb (getD pairCountColumn n 0) (length (excluded (kindAt n)))) refl e h)
+
+-- ---- excluded pairs
+
+-- the pairs of an element stand within the columns
+pub pairs-within : (e : ℕ) → e < 10 → getD pairFirstColumn e 0 + length (excluded (kindAt e)) ≤ 10
+unfolding pairFirstColumn onesOf kindAt fieldsOf
+pairs-within e h = leb-true (getD pairFirstColumn e 0 + length (excluded (kindAt e))) 10
+    (below-at 10 (λ (n : ℕ). leb (getD pairFirstColumn n 0 + length (excluded (kindAt n))) 10) refl e h)
+
+-- an entry of a part of a column
+entry : (l m : List ℕ) (a c i : ℕ) → take c (drop a l) ≡ m → i < c → getD l (a + i) 0 ≡ getD m i 0
+entry l m a c i e h = sym (getD-drop a l i 0) ∙ sym (getD-take c (drop a l) i 0 h) ∙ ap (λ (s : List ℕ). getD s i 0) e
+
+-- the one of an element's pair
+pub one-at : (e i : ℕ) → e < 10 → i < length (excluded (kindAt e)) → getD oneColumn (getD pairFirstColumn e 0 + i) 0 ≡ getD (onesOf (kindAt e)) i 0
+unfolding oneColumn pairFirstColumn onesOf kindAt fieldsOf
+one-at e i h l = entry oneColumn (onesOf (kindAt e)) (getD pairFirstColumn e 0) (length (excluded (kindAt e))) i
+    (same-eq (take (length (excluded (kindAt e))) (drop (getD pairFirstColumn e 0) oneColumn)) (onesOf (kindAt e))
+    (below-at 10 (λ (n : ℕ). same (take (length (excluded (kindAt n))) (drop (getD pairFirstColumn n 0) oneColumn)) (onesOf (kindAt n))) refl e h)) l
+
+-- the other of an element's pair
+pub other-at : (e i : ℕ) → e < 10 → i < length (excluded (kindAt e)) → getD otherColumn (getD pairFirstColumn e 0 + i) 0 ≡ getD (othersOf (kindAt e)) i 0
+unfolding otherColumn pairFirstColumn onesOf othersOf kindAt fieldsOf
+other-at e i h l = entry otherColumn (othersOf (kindAt e)) (getD pairFirstColumn e 0) (length (excluded (kindAt e))) i
+    (same-eq (take (length (excluded (kindAt e))) (drop (getD pairFirstColumn e 0) otherColumn)) (othersOf (kindAt e))
+    (below-at 10 (λ (n : ℕ). same (take (length (excluded (kindAt n))) (drop (getD pairFirstColumn n 0) otherColumn)) (othersOf (kindAt n))) refl e h)) l
+
+-- ---- an element's part of the columns
+
+-- the part of an element stands within the table
+pub part-within : (e : ℕ) → e < 10 → firstOf (kindAt e) + countOf (kindAt e) ≤ 52
+unfolding firstOf countOf kindAt fieldsOf
+part-within e h = leb-true (firstOf (kindAt e) + countOf (kindAt e)) 52 (below-at 10 (λ (n : ℕ). leb (firstOf (kindAt n) + countOf (kindAt n)) 52) refl e h)
+
+-- the column of keys is as long as the table
+pub key-length : length keyColumn ≡ 52
+unfolding keyColumn
+key-length = refl
+
+-- the key of a field
+abbrev pub fieldKey : Field → ℕ
+fieldKey f = keyOf (f .letters)
+
+-- the key of an element
+abbrev pub kindKey : Kind → ℕ
+kindKey k = keyOf (tagName k)
+
+-- the part holds the letters of the element's fields
+pub part-keys : (e : ℕ) → e < 10 → take (countOf (kindAt e)) (drop (firstOf (kindAt e)) keyColumn) ≡ map fieldKey (fieldsOf (kindAt e))
+unfolding firstOf countOf kindAt fieldsOf keyColumn
+part-keys e h = same-eq (take (countOf (kindAt e)) (drop (firstOf (kindAt e)) keyColumn)) (map fieldKey (fieldsOf (kindAt e)))
+    (below-at 10 (λ (n : ℕ). same (take (countOf (kindAt n)) (drop (firstOf (kindAt n)) keyColumn)) (map fieldKey (fieldsOf (kindAt n)))) refl e h)
+
+-- at most seven bytes
+abbrev pub short : List ℕ → Bool
+short n = leb (length n) 7 && every (λ (c : ℕ). ltb c 256) n
+
+-- the letters of an element's fields are short
+pub short-letters : (e : ℕ) → e < 10 → every (λ (f : Field). short (f .letters)) (fieldsOf (kindAt e)) ≡ true
+unfolding kindAt fieldsOf
+short-letters e h = below-at 10 (λ (n : ℕ). every (λ (f : Field). short (f .letters)) (fieldsOf (kindAt n))) refl e h
+
+-- ---- a parent's part of the columns
+
+-- what a parent may hold stands within the columns
+pub child-within : (p : ℕ) → p < 11 → getD childFirstColumn p 0 + getD childCountColumn p 0 ≤ 9
+unfolding childFirstColumn childCountColumn under kindAt
+child-within p h = leb-true (getD childFirstColumn p 0 + getD childCountColumn p 0) 9
+    (below-at 11 (λ (n : ℕ). leb (getD childFirstColumn n 0 + getD childCountColumn n 0) 9) refl p h)
+
+-- the part of a parent holds the names of what it may hold
+pub child-keys : (p : ℕ) → p < 11 → take (getD childCountColumn p 0) (drop (getD childFirstColumn p 0) childKeyColumn) ≡ map kindKey (under p)
+unfolding childFirstColumn childCountColumn childKeyColumn under kindAt
+child-keys p h = same-eq (take (getD childCountColumn p 0) (drop (getD childFirstColumn p 0) childKeyColumn)) (map kindKey (under p))
+    (below-at 11 (λ (n : ℕ). same (take (getD childCountColumn n 0) (drop (getD childFirstColumn n 0) childKeyColumn)) (map kindKey (under n))) refl p h)
+
+-- and their numbers
+pub child-kinds : (p : ℕ) → p < 11 → take (getD childCountColumn p 0) (drop (getD childFirstColumn p 0) childKindColumn) ≡ map code (under p)
+unfolding childFirstColumn childCountColumn childKindColumn under kindAt
+child-kinds p h = same-eq (take (getD childCountColumn p 0) (drop (getD childFirstColumn p 0) childKindColumn)) (map code (under p))
+    (below-at 11 (λ (n : ℕ). same (take (getD childCountColumn n 0) (drop (getD childFirstColumn n 0) childKindColumn)) (map code (under n))) refl p h)
+
+-- the names of elements are short
+pub short-names : (p : ℕ) → p < 11 → every (λ (k : Kind). short (tagName k)) (under p) ≡ true
+unfolding under kindAt
+short-names p h = below-at 11 (λ (n : ℕ). every (λ (k : Kind). short (tagName k)) (under n)) refl p h
+
+-- the numbers of the elements are below ten
+pub code-small : (k : Kind) → code k < 10
+code-small unknown = omega arith
+code-small MP = omega arith
+code-small P = omega arith
+code-small A = omega arith
+code-small O = omega arith
+code-small S = omega arith
+code-small M = omega arith
+code-small W = omega arith
+code-small R = omega arith
+code-small X = omega arith

@@ -1,0 +1,130 @@
+-- TableLaws: what a caller of the look-ups needs of paper's table: known letters, the field at a place of an element, the order by ranks, and
+-- names from their keys.
+-- Assumes nothing.
+use mathlib.Core.Path.{_≡_, refl, sym, ap, _∙_}
+use mathlib.Core.Bool.{Bool, true, false, not, _&&_, _||_}
+use mathlib.Core.List.{List, [], _∷_}
+use Prim.Native.Nat.{ℕ, zero, suc, _+_, _≤_, _<_}
+use native.Mathlib.Omega.{arith}
+use lib.Dec.{eqb, ltb}
+use lib.ListN.{length, take, drop, getD}
+use lib.Seq.{getD-take, getD-drop}
+use borrow.Author.Tests.{eqb-true, lt-ltb, ltb-true, ltb-false, le-ltb}
+use Rattle.paper.specs.Lists.{if, same, elem}
+use Rattle.paper.specs.Fields.{Kind, unknown, MP, P, A, O, S, M, W, R, X, code, Field, table, fieldsOf, tagName, later}
+use Rattle.paper.specs.Judging.{lettersOf}
+use Rattle.paper.proofs.Small.{below, below-at}
+use Rattle.fields.specs.Places.{kindAt, noField, fieldAt, placeIn, firstOf, countOf, rankOf, keyOf, nameOf}
+use Rattle.fields.proofs.NameLaws.{name-back}
+use Rattle.fields.proofs.ColumnLaws.{short, code-small}
+use Rattle.fields.proofs.FoundLaws.{short-is}
+
+-- letters are known just when a field is found
+pub known : (n : List ℕ) (fs : List Field) → elem n (lettersOf fs) ≡ ltb (placeIn n fs) (length fs)
+known n [] = refl
+known n (f ∷ fs) = go (same n (f .letters)) (known n fs)
+  where
+    go : (b : Bool) → elem n (lettersOf fs) ≡ ltb (placeIn n fs) (length fs) → (b || elem n (lettersOf fs)) ≡ ltb (if b 0 (suc (placeIn n fs))) (suc (length fs))
+    go true e = sym (lt-ltb 0 (suc (length fs)) (omega arith))
+    go false e = e ∙ shift (ltb (placeIn n fs) (length fs)) refl
+      where
+        shift : (b : Bool) → ltb (placeIn n fs) (length fs) ≡ b → ltb (placeIn n fs) (length fs) ≡ ltb (suc (placeIn n fs)) (suc (length fs))
+        shift true q = let l = ltb-true (placeIn n fs) (length fs) q in q ∙ sym (lt-ltb (suc (placeIn n fs)) (suc (length fs)) (omega arith))
+        shift false q = let l = ltb-false (placeIn n fs) (length fs) q in q ∙ sym (le-ltb (suc (placeIn n fs)) (suc (length fs)) (omega arith))
+
+-- the field that is found has those letters
+pub found-letters : (n : List ℕ) (fs : List Field) → placeIn n fs < length fs → same n (getD fs (placeIn n fs) noField .letters) ≡ true
+found-letters n [] h = absurd (omega arith)
+found-letters n (f ∷ fs) h = go (same n (f .letters)) refl h (found-letters n fs)
+  where
+    go : (b : Bool) → same n (f .letters) ≡ b → if b 0 (suc (placeIn n fs)) < suc (length fs) → (placeIn n fs < length fs → same n (getD fs (placeIn n fs) noField .letters) ≡ true)
+        → same n (getD (f ∷ fs) (if b 0 (suc (placeIn n fs))) noField .letters) ≡ true
+    go true e h ih = e
+    go false e h ih = ih (omega arith)
+
+-- the element of an element's number
+pub kind-back : (k : Kind) → kindAt (code k) ≡ k
+unfolding kindAt
+kind-back unknown = refl
+kind-back MP = refl
+kind-back P = refl
+kind-back A = refl
+kind-back O = refl
+kind-back S = refl
+kind-back M = refl
+kind-back W = refl
+kind-back R = refl
+kind-back X = refl
+
+-- the number of a number's element
+pub code-back : (e : ℕ) → e < 10 → code (kindAt e) ≡ e
+unfolding kindAt
+code-back e h = eqb-true (code (kindAt e)) e (below-at 10 (λ (n : ℕ). eqb (code (kindAt n)) n) refl e h)
+
+-- an element's fields are a part of the table
+pub part-of-table : (k : Kind) → fieldsOf k ≡ take (countOf k) (drop (firstOf k) table)
+unfolding firstOf countOf fieldsOf
+part-of-table unknown = refl
+part-of-table MP = refl
+part-of-table P = refl
+part-of-table A = refl
+part-of-table O = refl
+part-of-table S = refl
+part-of-table M = refl
+part-of-table W = refl
+part-of-table R = refl
+part-of-table X = refl
+
+-- the field at a place of an element
+pub field-at : (k : Kind) (i : ℕ) → i < countOf k → getD (fieldsOf k) i noField ≡ fieldAt (firstOf k + i)
+unfolding fieldAt
+field-at k i h =
+    ap (λ (l : List Field). getD l i noField) (part-of-table k)
+    ∙ getD-take (countOf k) (drop (firstOf k) table) i noField h
+    ∙ getD-drop (firstOf k) table i noField
+
+-- two truth values agree
+abbrev agree : Bool → Bool → Bool
+agree true b = b
+agree false b = not b
+
+agreed : (a b : Bool) → agree a b ≡ true → a ≡ b
+agreed true b e = sym e
+agreed false true e = e
+agreed false false e = refl
+
+-- later, by the numbers of two kinds
+by-rank : ℕ → ℕ → Bool
+by-rank a b = agree (later (kindAt a) (kindAt b)) (ltb 0 (rankOf (kindAt a)) && ltb (rankOf (kindAt a)) (rankOf (kindAt b)))
+
+-- a kind is later than another just when both have ranks and its rank is above
+pub later-rank : (j k : Kind) → later j k ≡ (ltb 0 (rankOf j) && ltb (rankOf j) (rankOf k))
+unfolding kindAt by-rank
+later-rank j k =
+    let row = below-at 10 (λ (a : ℕ). below 10 (by-rank a)) refl (code j) (code-small j) in
+    let one = below-at 10 (by-rank (code j)) row (code k) (code-small k) in
+    agreed (later j k) (ltb 0 (rankOf j) && ltb (rankOf j) (rankOf k)) (rw (kind-back j, kind-back k) at one)
+
+-- ---- names from keys
+
+short-at : (id : ℕ) → id < 52 → short (fieldAt id .letters) ≡ true
+unfolding fieldAt
+short-at id h = below-at 52 (λ (n : ℕ). short (fieldAt n .letters)) refl id h
+
+-- the letters of a field, back from their key
+pub letters-back : (id : ℕ) → id < 52 → nameOf (keyOf (fieldAt id .letters)) ≡ fieldAt id .letters
+letters-back id h = name-back (fieldAt id .letters) (short-is (fieldAt id .letters) (short-at id h))
+
+-- the name of an element, back from its key
+pub tag-back : (k : Kind) → nameOf (keyOf (tagName k)) ≡ tagName k
+unfolding nameOf
+tag-back unknown = refl
+tag-back MP = refl
+tag-back P = refl
+tag-back A = refl
+tag-back O = refl
+tag-back S = refl
+tag-back M = refl
+tag-back W = refl
+tag-back R = refl
+tag-back X = refl

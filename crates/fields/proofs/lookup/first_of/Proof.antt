@@ -1,0 +1,22 @@
+-- `fields::lookup::first_of` meets its contract: the column holds the first places of the elements.
+-- Assumes nothing.
+use Prim.Native.Nat.{_-_}
+use borrow.Author.Needs.{needs}
+use Rattle.fields.specs.Places.{firstOf}
+use Rattle.fields.specs.Columns.{firstColumn}
+use Rattle.fields.proofs.ColumnLaws.{first-at}
+use Rattle.fields.proofs.lookup.first_of.Statement.{statement}
+use Rattle.fields.proofs.lookup.first_of.Tie as tie
+
+mul-result : tie.Need-mul-result
+mul-result c = search needs
+
+array-read-result : tie.Need-array-read-result
+array-read-result c = search needs
+
+returns : tie.Need-returns
+unfolding firstColumn firstOf
+returns c = first-at (c .args .element) (search needs)
+
+pub first-of-spec : {M : Type 1} → statement M
+first-of-spec = tie.close (tie.spec mul-result array-read-result returns)

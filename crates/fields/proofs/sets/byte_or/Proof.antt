@@ -1,0 +1,20 @@
+-- `fields::sets::byte_or` meets its contract: past the end stands the default.
+-- Assumes nothing.
+use mathlib.Core.Path.{sym}
+use Prim.Native.Nat.{_-_}
+use lib.ListN.{List·getD-eq-default}
+use borrow.Author.Needs.{needs}
+use Rattle.fields.proofs.sets.byte_or.Statement.{statement}
+use Rattle.fields.proofs.sets.byte_or.Tie as tie
+
+shared-slice-read-result : tie.Need-shared-slice-read-result
+shared-slice-read-result c = search needs
+
+returns : tie.Need-returns
+returns c = search needs
+
+returns-2 : tie.Need-returns-2
+returns-2 c = sym (List·getD-eq-default (c .before .args .v .now) 0 (c .if1 .left))
+
+pub byte-or-spec : {M : Type 1} → statement M
+byte-or-spec = tie.close (tie.spec shared-slice-read-result returns returns-2)

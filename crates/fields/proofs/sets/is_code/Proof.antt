@@ -1,0 +1,25 @@
+-- `fields::sets::is_code` meets its contract: either range.
+-- Assumes nothing.
+use mathlib.Core.Path.{sym, _∙_}
+use Prim.Native.Nat.{_-_}
+use borrow.Author.Needs.{needs}
+use Rattle.fields.specs.Sets.{inSet}
+use Rattle.fields.proofs.sets.is_code.Statement.{statement}
+use Rattle.fields.proofs.sets.is_code.Tie as tie
+
+between-requires : tie.Need-between-requires
+between-requires c κs = search needs
+
+returns : tie.Need-returns
+unfolding inSet
+returns c = rw (sym (c .before .between .ensures) ∙ c .if1 .taken)
+
+between-requires-2 : tie.Need-between-requires-2
+between-requires-2 c κs = search needs
+
+returns-2 : tie.Need-returns-2
+unfolding inSet
+returns-2 c = rw (sym (c .before .before .between .ensures) ∙ c .before .if1 .left) (c .between2 .ensures)
+
+pub is-code-spec : {M : Type 1} → statement M
+is-code-spec = tie.close (tie.spec between-requires returns between-requires-2 returns-2)

@@ -1,0 +1,108 @@
+-- Columns: the table of elements and fields column by column, as the code holds it. A caller that hands columns down cites keyColumn, ruleColumn,
+-- leastColumn, mostColumn, tildeColumn and mustColumn; the others serve this crate.
+-- Assumes nothing.
+use mathlib.Core.Bool.{Bool, true, false, not}
+use mathlib.Core.List.{List, [], _∷_, _++_, map}
+use Prim.Native.Nat.{ℕ}
+use lib.Dec.{eqb}
+use lib.ListN.{length, take}
+use Rattle.paper.specs.Lists.{concat}
+use Rattle.paper.specs.Fields.{Kind, code, Field, table, tagName, excluded, most-of}
+use Rattle.fields.specs.Places.{ruleNumber, kinds, keyOf, firstOf, countOf, under, rankOf, onesOf, othersOf}
+
+-- a truth value as a number
+abbrev pub bit : Bool → ℕ
+bit true = 1
+bit false = 0
+
+-- the letters of the fields, as keys
+unfoldable pub keyColumn : List ℕ
+keyColumn = map (λ (f : Field). keyOf (f .letters)) table
+
+-- the elements of the fields
+unfoldable pub elementColumn : List ℕ
+elementColumn = map (λ (f : Field). code (f .element)) table
+
+-- the rules of the fields
+unfoldable pub ruleColumn : List ℕ
+ruleColumn = map (λ (f : Field). ruleNumber (f .rule)) table
+
+-- the least lengths
+unfoldable pub leastColumn : List ℕ
+leastColumn = map (λ (f : Field). f .least) table
+
+-- the greatest lengths
+unfoldable pub mostColumn : List ℕ
+mostColumn = map (λ (f : Field). f .most) table
+
+-- how many line breaks each may have
+unfoldable pub tildeColumn : List ℕ
+tildeColumn = map (λ (f : Field). f .tildes) table
+
+-- 1 for a field that must be present
+unfoldable pub mustColumn : List ℕ
+mustColumn = map (λ (f : Field). bit (f .must)) table
+
+-- the place of each element's first field
+unfoldable pub firstColumn : List ℕ
+firstColumn = map firstOf kinds
+
+-- how many fields each element has
+unfoldable pub countColumn : List ℕ
+countColumn = map countOf kinds
+
+-- the numbers of the parents, the last one outside of all elements
+abbrev pub parents : List ℕ
+parents = 0 ∷ 1 ∷ 2 ∷ 3 ∷ 4 ∷ 5 ∷ 6 ∷ 7 ∷ 8 ∷ 9 ∷ 10 ∷ []
+
+-- what may stand under each parent, one behind the other
+abbrev pub childRow : List Kind
+childRow = concat (map under parents)
+
+-- the names of those, as keys
+unfoldable pub childKeyColumn : List ℕ
+childKeyColumn = map (λ (k : Kind). keyOf (tagName k)) childRow
+
+-- the numbers of those
+unfoldable pub childKindColumn : List ℕ
+childKindColumn = map code childRow
+
+-- the place of the first one of each parent
+unfoldable pub childFirstColumn : List ℕ
+childFirstColumn = map (λ (n : ℕ). length (concat (map under (take n parents)))) parents
+
+-- how many each parent may hold
+unfoldable pub childCountColumn : List ℕ
+childCountColumn = map (λ (n : ℕ). length (under n)) parents
+
+-- how many of each element its parent may have
+unfoldable pub limitColumn : List ℕ
+limitColumn = map most-of kinds
+
+-- the names of the elements, as keys
+unfoldable pub tagColumn : List ℕ
+tagColumn = map (λ (k : Kind). keyOf (tagName k)) kinds
+
+-- the ranks of the elements
+unfoldable pub rankColumn : List ℕ
+rankColumn = map rankOf kinds
+
+-- the ones of the excluded pairs, one element's behind the other's
+unfoldable pub oneColumn : List ℕ
+oneColumn = concat (map onesOf kinds)
+
+-- the others of the excluded pairs
+unfoldable pub otherColumn : List ℕ
+otherColumn = concat (map othersOf kinds)
+
+-- the place of each element's first pair
+unfoldable pub pairFirstColumn : List ℕ
+pairFirstColumn = map (λ (n : ℕ). length (concat (map onesOf (take n kinds)))) (take 10 parents)
+
+-- how many pairs each element has
+unfoldable pub pairCountColumn : List ℕ
+pairCountColumn = map (λ (k : Kind). length (excluded k)) kinds
+
+-- another key than this
+abbrev pub other : ℕ → ℕ → Bool
+other k x = not (eqb x k)

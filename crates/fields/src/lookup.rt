@@ -1,0 +1,256 @@
+// The table looked up: an element under its parent by its name, a field of an element by its letters, and the columns of a field.
+ghost use mathlib.Core.Path.{_≡_};
+ghost use Prim.Native.Nat.{_+_, _-_, _<_, _≤_};
+ghost use lib.ListN.{length, take, drop, getD};
+ghost use Rattle.paper.specs.Lists.{until};
+ghost use Rattle.paper.specs.Fields.{code, tagName, named, fieldsOf, most-of, excluded};
+ghost use Rattle.fields.specs.Places.{kindAt, ruleNumber, fieldAt, placeIn, firstOf, countOf, under, rankOf, onesOf, othersOf, keyOf, keyOrNone};
+ghost use Rattle.fields.specs.Columns.{other, keyColumn, ruleColumn, leastColumn, mostColumn, tildeColumn, mustColumn};
+use crate::table::CHILD_COUNTS;
+use crate::table::CHILD_FIRSTS;
+use crate::table::CHILD_KEYS;
+use crate::table::CHILD_KINDS;
+use crate::table::COUNTS;
+use crate::table::ELEMENTS;
+use crate::table::FIRSTS;
+use crate::table::KEYS;
+use crate::table::LEASTS;
+use crate::table::MOST_OF;
+use crate::table::MOSTS;
+use crate::table::MUSTS;
+use crate::table::PAIR_COUNTS;
+use crate::table::PAIR_FIRSTS;
+use crate::table::PAIR_ONES;
+use crate::table::PAIR_OTHERS;
+use crate::table::RANKS;
+use crate::table::RULES;
+use crate::table::TAGS;
+use crate::table::TILDES;
+
+// The letters of all fields, as keys.
+pub fn keys() -> [u64; 52]
+    ensures { λ r. ⌜ r ≡ keyColumn ⌝ }
+{
+    KEYS
+}
+
+// The rules of all fields.
+pub fn rules() -> [u8; 52]
+    ensures { λ r. ⌜ r ≡ ruleColumn ⌝ }
+{
+    RULES
+}
+
+// The least lengths of all fields.
+pub fn leasts() -> [u16; 52]
+    ensures { λ r. ⌜ r ≡ leastColumn ⌝ }
+{
+    LEASTS
+}
+
+// The greatest lengths of all fields.
+pub fn mosts() -> [u16; 52]
+    ensures { λ r. ⌜ r ≡ mostColumn ⌝ }
+{
+    MOSTS
+}
+
+// How many line breaks each field may have.
+pub fn tildes() -> [u8; 52]
+    ensures { λ r. ⌜ r ≡ tildeColumn ⌝ }
+{
+    TILDES
+}
+
+// Which fields must be present: 1 for each that must.
+pub fn musts() -> [u8; 52]
+    ensures { λ r. ⌜ r ≡ mustColumn ⌝ }
+{
+    MUSTS
+}
+
+// The letters of a field, as a key.
+pub fn letters_of(id: usize) -> u64
+    requires { ⌜ id < 52 ⌝ }
+    ensures { λ r. ⌜ r ≡ keyOf (fieldAt id .letters) ⌝ }
+{
+    KEYS[id]
+}
+
+// A field's element.
+pub fn element_of(id: usize) -> u8
+    requires { ⌜ id < 52 ⌝ }
+    ensures { λ r. ⌜ r ≡ code (fieldAt id .element) ⌝ }
+{
+    ELEMENTS[id]
+}
+
+// A field's rule.
+pub fn rule_of(id: usize) -> u8
+    requires { ⌜ id < 52 ⌝ }
+    ensures { λ r. ⌜ r ≡ ruleNumber (fieldAt id .rule) ⌝ }
+{
+    RULES[id]
+}
+
+// A field's least length.
+pub fn least_of(id: usize) -> u16
+    requires { ⌜ id < 52 ⌝ }
+    ensures { λ r. ⌜ r ≡ fieldAt id .least ⌝ }
+{
+    LEASTS[id]
+}
+
+// A field's greatest length.
+pub fn most_of(id: usize) -> u16
+    requires { ⌜ id < 52 ⌝ }
+    ensures { λ r. ⌜ r ≡ fieldAt id .most ⌝ }
+{
+    MOSTS[id]
+}
+
+// How many line breaks a field may have.
+pub fn tildes_of(id: usize) -> u8
+    requires { ⌜ id < 52 ⌝ }
+    ensures { λ r. ⌜ r ≡ fieldAt id .tildes ⌝ }
+{
+    TILDES[id]
+}
+
+// Whether a field must be present.
+pub fn must(id: usize) -> bool
+    requires { ⌜ id < 52 ⌝ }
+    ensures { λ r. ⌜ r ≡ fieldAt id .must ⌝ }
+{
+    MUSTS[id] == 1
+}
+
+// The place of an element's first field in the table.
+pub fn first_of(element: u8) -> usize
+    requires { ⌜ element < 10 ⌝ }
+    ensures { λ r. ⌜ r ≡ firstOf (kindAt element) ⌝ }
+{
+    FIRSTS[element as usize]
+}
+
+// How many fields an element has.
+pub fn count_of(element: u8) -> usize
+    requires { ⌜ element < 10 ⌝ }
+    ensures { λ r. ⌜ (r ≡ countOf (kindAt element)) × (firstOf (kindAt element) + r ≤ 52) ⌝ }
+{
+    COUNTS[element as usize]
+}
+
+// How many of an element its parent may have; 0 is any number.
+pub fn limit_of(element: u8) -> usize
+    requires { ⌜ element < 10 ⌝ }
+    ensures { λ r. ⌜ r ≡ most-of (kindAt element) ⌝ }
+{
+    MOST_OF[element as usize]
+}
+
+// An element's rank in the order inside MP, counted from 1; 0 for an element that stands elsewhere.
+pub fn rank_of(element: u8) -> u8
+    requires { ⌜ element < 10 ⌝ }
+    ensures { λ r. ⌜ r ≡ rankOf (kindAt element) ⌝ }
+{
+    RANKS[element as usize]
+}
+
+// How many pairs of fields of an element exclude each other.
+pub fn pairs_of(element: u8) -> usize
+    requires { ⌜ element < 10 ⌝ }
+    ensures { λ r. ⌜ r ≡ length (excluded (kindAt element)) ⌝ }
+{
+    PAIR_COUNTS[element as usize]
+}
+
+// The place of the one field of such a pair among its element's fields.
+pub fn pair_one(element: u8, i: usize) -> usize
+    requires { ⌜ (element < 10) × (i < length (excluded (kindAt element))) ⌝ }
+    ensures { λ r. ⌜ r ≡ getD (onesOf (kindAt element)) i 0 ⌝ }
+{
+    PAIR_ONES[PAIR_FIRSTS[element as usize] + i]
+}
+
+// The place of the other field of such a pair.
+pub fn pair_other(element: u8, i: usize) -> usize
+    requires { ⌜ (element < 10) × (i < length (excluded (kindAt element))) ⌝ }
+    ensures { λ r. ⌜ r ≡ getD (othersOf (kindAt element)) i 0 ⌝ }
+{
+    PAIR_OTHERS[PAIR_FIRSTS[element as usize] + i]
+}
+
+// The name of an element in its tags, as a key.
+pub fn tag_of(element: u8) -> u64
+    requires { ⌜ element < 10 ⌝ }
+    ensures { λ r. ⌜ r ≡ keyOf (tagName (kindAt element)) ⌝ }
+{
+    TAGS[element as usize]
+}
+
+// The key of a name; 0 for one of more than seven bytes, which no element and no field has.
+pub fn key(name: &[u8]) -> u64
+    ensures { λ r. ⌜ r ≡ keyOrNone (now (name .entry)) ⌝ }
+{
+    if name.len() > 7 {
+        return 0;
+    }
+    let mut k = 1;
+    let mut i = name.len();
+    while i > 0 {
+        i -= 1;
+        k = k * 256 + name[i] as u64;
+    }
+    k
+}
+
+// How many keys stand before the one that is looked for, from one place up to another; all of them if it is not there.
+pub fn find(keys: &[u64], from: usize, to: usize, k: u64) -> usize
+    requires { ⌜ (from ≤ to) × (to ≤ length (now keys)) ⌝ }
+    ensures { λ r. ⌜ (r ≡ until (other k) (take (to - from) (drop from (now (keys .entry))))) × (r ≤ to - from) ⌝ }
+{
+    let mut i = from;
+    while i < to {
+        if keys[i] == k {
+            return i - from;
+        }
+        i += 1;
+    }
+    i - from
+}
+
+// The place of a field among its element's, by its letters; the number of the element's fields if it has no such field.
+pub fn field_in(keys: &[u64], element: u8, name: &[u8]) -> usize
+    requires { ⌜ (now keys ≡ keyColumn) × (element < 10) ⌝ }
+    ensures { λ r. ⌜ (r ≡ placeIn (now (name .entry)) (fieldsOf (kindAt element))) × (r ≤ countOf (kindAt element)) ⌝ }
+{
+    let first = first_of(element);
+    let count = count_of(element);
+    find(keys, first, first + count, key(name))
+}
+
+// The same, with the keys of the table itself.
+pub fn field(element: u8, name: &[u8]) -> usize
+    requires { ⌜ element < 10 ⌝ }
+    ensures { λ r. ⌜ (r ≡ placeIn (now (name .entry)) (fieldsOf (kindAt element))) × (r ≤ countOf (kindAt element)) ⌝ }
+{
+    let keys = keys();
+    field_in(&keys, element, name)
+}
+
+// The element of a name under a parent, 0 if the parent may not hold such a one; parent 10 is outside of all elements.
+pub fn child(parent: u8, name: &[u8]) -> u8
+    requires { ⌜ parent < 11 ⌝ }
+    ensures { λ r. ⌜ (r ≡ code (named (now (name .entry)) (under parent))) × (r < 10) ⌝ }
+{
+    let keys = CHILD_KEYS;
+    let kinds = CHILD_KINDS;
+    let first = CHILD_FIRSTS[parent as usize];
+    let count = CHILD_COUNTS[parent as usize];
+    let i = find(&keys, first, first + count, key(name));
+    if i < count {
+        return kinds[first + i];
+    }
+    0
+}

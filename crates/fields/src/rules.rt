@@ -1,0 +1,141 @@
+// Whether a value keeps its field's rule: its bytes, its length, its line breaks, its form.
+ghost use mathlib.Core.Path.{_≡_};
+ghost use mathlib.Core.Bool.{_&&_};
+ghost use Prim.Native.Nat.{_<_};
+ghost use lib.Dec.{leb};
+ghost use Rattle.paper.specs.Lists.{every, count};
+ghost use Rattle.paper.specs.Bytes.{isDecoded};
+ghost use Rattle.paper.specs.Rules.{obeys, keeps, linesOk, isZero};
+ghost use Rattle.fields.specs.Places.{ruleAt, limits, fieldAt};
+ghost use Rattle.fields.specs.Columns.{ruleColumn, leastColumn, mostColumn, tildeColumn};
+use crate::dates::is_birthday;
+use crate::dates::is_stamp;
+use crate::dose::is_dose;
+use crate::dose::is_zero;
+use crate::lookup::least_of;
+use crate::lookup::most_of;
+use crate::lookup::rule_of;
+use crate::lookup::tildes_of;
+use crate::package_number::is_package;
+use crate::sets::CODE;
+use crate::sets::DIGIT;
+use crate::sets::HEX;
+use crate::sets::NUMBER;
+use crate::sets::SEX;
+use crate::sets::SIGN;
+use crate::sets::all_in;
+use crate::sets::fits;
+use crate::sets::is_decoded;
+
+// Whether all bytes may stand in a value, and no more than so many of them are line breaks "~".
+fn is_text(v: &[u8], tildes: usize) -> bool
+    ensures { λ r. ⌜ r ≡ (every isDecoded (now (v .entry)) && leb (count 126 (now (v .entry))) tildes) ⌝ }
+{
+    let mut n = 0;
+    let mut i = 0;
+    while i < v.len() {
+        let j = i + 1;
+        if v[i] == b'~' {
+            n += 1;
+            i = j;
+        } else if is_decoded(v[i]) {
+            i = j;
+        } else {
+            return false;
+        }
+    }
+    n <= tildes
+}
+
+// Whether the lines of a value, parted by "~", have at most 25 bytes each.
+fn has_lines(v: &[u8]) -> bool
+    ensures { λ r. ⌜ r ≡ linesOk 0 (now (v .entry)) ⌝ }
+{
+    let mut n: usize = 0;
+    let mut i = 0;
+    while i < v.len() {
+        let j = i + 1;
+        if v[i] != b'~' {
+            n += 1;
+            i = j;
+        } else if n <= 25 {
+            n = 0;
+            i = j;
+        } else {
+            return false;
+        }
+    }
+    n <= 25
+}
+
+// Whether a value keeps a rule: 0 free text, 1 the edition, 2 digits, 3 digits or A to F, 4 a language, 5 a page number, 6 a birthday,
+// 7 a sex, 8 an insured person's number, 9 a time stamp, 10 a "1", 11 lines, 12 a package number, 13 a code, 14 a dose, 15 a sign.
+pub fn keeps_rule(rule: u8, v: &[u8]) -> bool
+    ensures { λ r. ⌜ r ≡ obeys (ruleAt rule) (now (v .entry)) ⌝ }
+{
+    match rule {
+        1 => fits(v, b"027"),
+        2 => all_in(v, 0, DIGIT),
+        3 => all_in(v, 0, HEX),
+        4 => fits(v, b"aa-AA"),
+        5 => all_in(v, 0, NUMBER),
+        6 => is_birthday(v),
+        7 => all_in(v, 0, SEX),
+        8 => fits(v, b"A#########"),
+        9 => is_stamp(v),
+        10 => all_in(v, 0, b'1'),
+        11 => has_lines(v),
+        12 => is_package(v),
+        13 => all_in(v, 0, CODE),
+        14 => is_dose(v),
+        15 => all_in(v, 0, SIGN),
+        _ => true,
+    }
+}
+
+// Whether a value keeps a rule, two limits of its length and one of its line breaks.
+pub fn keeps_limits(rule: u8, least: u16, most: u16, tildes: u8, v: &[u8]) -> bool
+    ensures { λ r. ⌜ r ≡ keeps (limits rule least most tildes) (now (v .entry)) ⌝ }
+{
+    if v.len() < least as usize {
+        return false;
+    }
+    if v.len() > most as usize {
+        return false;
+    }
+    if is_text(v, tildes as usize) {
+        return keeps_rule(rule, v);
+    }
+    false
+}
+
+// Whether a present value keeps the field at a place of the table.
+pub fn keeps_field(id: usize, v: &[u8]) -> bool
+    requires { ⌜ id < 52 ⌝ }
+    ensures { λ r. ⌜ r ≡ keeps (fieldAt id) (now (v .entry)) ⌝ }
+{
+    keeps_limits(rule_of(id), least_of(id), most_of(id), tildes_of(id), v)
+}
+
+// Whether a value of the field at a place of the table reads as absent: a dose of exactly "0".
+pub fn reads_absent(id: usize, v: &[u8]) -> bool
+    requires { ⌜ id < 52 ⌝ }
+    ensures { λ r. ⌜ r ≡ isZero (fieldAt id .rule) (now (v .entry)) ⌝ }
+{
+    is_zero(rule_of(id), v)
+}
+
+// Whether a present value keeps its field, with the columns of the table handed down by a caller that copies them once.
+pub fn keeps_in(
+    rules: &[u8; 52],
+    leasts: &[u16; 52],
+    mosts: &[u16; 52],
+    tildes: &[u8; 52],
+    id: usize,
+    v: &[u8],
+) -> bool
+    requires { ⌜ (now rules ≡ ruleColumn) × (now leasts ≡ leastColumn) × (now mosts ≡ mostColumn) × (now tildes ≡ tildeColumn) × (id < 52) ⌝ }
+    ensures { λ r. ⌜ r ≡ keeps (fieldAt id) (now (v .entry)) ⌝ }
+{
+    keeps_limits(rules[id], leasts[id], mosts[id], tildes[id], v)
+}

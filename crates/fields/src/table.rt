@@ -1,0 +1,575 @@
+// The table of elements and fields as constant columns. Made by tools/field-table.
+
+// Each field's letters as a key: the first byte lowest, with a 1 above the last.
+pub const KEYS: [u64; 52] = [
+    374, // MP.v
+    368, // MP.p
+    341, // MP.U
+    364, // MP.l
+    353, // MP.a
+    378, // MP.z
+    359, // P.g
+    358, // P.f
+    354, // P.b
+    371, // P.s
+    23816037, // P.egk
+    372, // P.t
+    374, // P.v
+    378, // P.z
+    6214803820, // A.lanr
+    23487593, // A.idf
+    23816555, // A.kik
+    366, // A.n
+    371, // A.s
+    378, // A.z
+    355, // A.c
+    368, // A.p
+    357, // A.e
+    372, // A.t
+    92513, // O.ai
+    375, // O.w
+    360, // O.h
+    355, // O.c
+    368, // O.p
+    354, // O.b
+    376, // O.x
+    355, // S.c
+    372, // S.t
+    368, // M.p
+    353, // M.a
+    358, // M.f
+    91238, // M.fd
+    365, // M.m
+    356, // M.d
+    374, // M.v
+    360, // M.h
+    372, // M.t
+    95588, // M.du
+    23360868, // M.dud
+    361, // M.i
+    370, // M.r
+    376, // M.x
+    375, // W.w
+    371, // W.s
+    372, // R.t
+    376, // R.x
+    372, // X.t
+];
+
+// Each field's element, by its number.
+pub const ELEMENTS: [u8; 52] = [
+    1, // MP.v
+    1, // MP.p
+    1, // MP.U
+    1, // MP.l
+    1, // MP.a
+    1, // MP.z
+    2, // P.g
+    2, // P.f
+    2, // P.b
+    2, // P.s
+    2, // P.egk
+    2, // P.t
+    2, // P.v
+    2, // P.z
+    3, // A.lanr
+    3, // A.idf
+    3, // A.kik
+    3, // A.n
+    3, // A.s
+    3, // A.z
+    3, // A.c
+    3, // A.p
+    3, // A.e
+    3, // A.t
+    4, // O.ai
+    4, // O.w
+    4, // O.h
+    4, // O.c
+    4, // O.p
+    4, // O.b
+    4, // O.x
+    5, // S.c
+    5, // S.t
+    6, // M.p
+    6, // M.a
+    6, // M.f
+    6, // M.fd
+    6, // M.m
+    6, // M.d
+    6, // M.v
+    6, // M.h
+    6, // M.t
+    6, // M.du
+    6, // M.dud
+    6, // M.i
+    6, // M.r
+    6, // M.x
+    7, // W.w
+    7, // W.s
+    8, // R.t
+    8, // R.x
+    9, // X.t
+];
+
+// Each field's rule, numbered as `rules::obeys` says.
+pub const RULES: [u8; 52] = [
+    1, // MP.v
+    2, // MP.p
+    3, // MP.U
+    4, // MP.l
+    5, // MP.a
+    5, // MP.z
+    0, // P.g
+    0, // P.f
+    6, // P.b
+    7, // P.s
+    8, // P.egk
+    0, // P.t
+    0, // P.v
+    0, // P.z
+    2, // A.lanr
+    2, // A.idf
+    2, // A.kik
+    0, // A.n
+    0, // A.s
+    2, // A.z
+    0, // A.c
+    0, // A.p
+    0, // A.e
+    9, // A.t
+    0, // O.ai
+    2, // O.w
+    2, // O.h
+    0, // O.c
+    10, // O.p
+    10, // O.b
+    11, // O.x
+    2, // S.c
+    0, // S.t
+    12, // M.p
+    0, // M.a
+    13, // M.f
+    0, // M.fd
+    14, // M.m
+    14, // M.d
+    14, // M.v
+    14, // M.h
+    0, // M.t
+    15, // M.du
+    0, // M.dud
+    0, // M.i
+    0, // M.r
+    0, // M.x
+    0, // W.w
+    0, // W.s
+    0, // R.t
+    0, // R.x
+    0, // X.t
+];
+
+// Each field's least length.
+pub const LEASTS: [u16; 52] = [
+    3, // MP.v
+    1, // MP.p
+    32, // MP.U
+    5, // MP.l
+    1, // MP.a
+    1, // MP.z
+    1, // P.g
+    1, // P.f
+    8, // P.b
+    1, // P.s
+    10, // P.egk
+    1, // P.t
+    1, // P.v
+    1, // P.z
+    9, // A.lanr
+    7, // A.idf
+    9, // A.kik
+    1, // A.n
+    1, // A.s
+    5, // A.z
+    1, // A.c
+    1, // A.p
+    1, // A.e
+    19, // A.t
+    1, // O.ai
+    1, // O.w
+    1, // O.h
+    1, // O.c
+    1, // O.p
+    1, // O.b
+    1, // O.x
+    3, // S.c
+    1, // S.t
+    1, // M.p
+    1, // M.a
+    3, // M.f
+    1, // M.fd
+    1, // M.m
+    1, // M.d
+    1, // M.v
+    1, // M.h
+    1, // M.t
+    1, // M.du
+    2, // M.dud
+    1, // M.i
+    1, // M.r
+    1, // M.x
+    1, // W.w
+    1, // W.s
+    1, // R.t
+    1, // R.x
+    1, // X.t
+];
+
+// Each field's greatest length.
+pub const MOSTS: [u16; 52] = [
+    3, // MP.v
+    2, // MP.p
+    32, // MP.U
+    5, // MP.l
+    1, // MP.a
+    1, // MP.z
+    45, // P.g
+    45, // P.f
+    8, // P.b
+    1, // P.s
+    10, // P.egk
+    20, // P.t
+    20, // P.v
+    20, // P.z
+    9, // A.lanr
+    7, // A.idf
+    9, // A.kik
+    50, // A.n
+    30, // A.s
+    5, // A.z
+    20, // A.c
+    20, // A.p
+    40, // A.e
+    19, // A.t
+    50, // O.ai
+    5, // O.w
+    3, // O.h
+    5, // O.c
+    1, // O.p
+    1, // O.b
+    77, // O.x
+    3, // S.c
+    50, // S.t
+    8, // M.p
+    50, // M.a
+    3, // M.f
+    7, // M.fd
+    4, // M.m
+    4, // M.d
+    4, // M.v
+    4, // M.h
+    20, // M.t
+    1, // M.du
+    20, // M.dud
+    80, // M.i
+    50, // M.r
+    200, // M.x
+    80, // W.w
+    15, // W.s
+    200, // R.t
+    200, // R.x
+    200, // X.t
+];
+
+// How many line breaks a field may have.
+pub const TILDES: [u8; 52] = [
+    0, // MP.v
+    0, // MP.p
+    0, // MP.U
+    0, // MP.l
+    0, // MP.a
+    0, // MP.z
+    0, // P.g
+    0, // P.f
+    0, // P.b
+    0, // P.s
+    0, // P.egk
+    0, // P.t
+    0, // P.v
+    0, // P.z
+    0, // A.lanr
+    0, // A.idf
+    0, // A.kik
+    0, // A.n
+    0, // A.s
+    0, // A.z
+    0, // A.c
+    0, // A.p
+    0, // A.e
+    0, // A.t
+    0, // O.ai
+    0, // O.w
+    0, // O.h
+    0, // O.c
+    0, // O.p
+    0, // O.b
+    2, // O.x
+    0, // S.c
+    0, // S.t
+    0, // M.p
+    0, // M.a
+    0, // M.f
+    0, // M.fd
+    0, // M.m
+    0, // M.d
+    0, // M.v
+    0, // M.h
+    0, // M.t
+    0, // M.du
+    0, // M.dud
+    1, // M.i
+    1, // M.r
+    1, // M.x
+    0, // W.w
+    0, // W.s
+    1, // R.t
+    1, // R.x
+    1, // X.t
+];
+
+// 1 for a field that must be present, else 0.
+pub const MUSTS: [u8; 52] = [
+    1, // MP.v
+    0, // MP.p
+    1, // MP.U
+    0, // MP.l
+    0, // MP.a
+    0, // MP.z
+    1, // P.g
+    1, // P.f
+    1, // P.b
+    0, // P.s
+    0, // P.egk
+    0, // P.t
+    0, // P.v
+    0, // P.z
+    0, // A.lanr
+    0, // A.idf
+    0, // A.kik
+    1, // A.n
+    0, // A.s
+    0, // A.z
+    0, // A.c
+    0, // A.p
+    0, // A.e
+    1, // A.t
+    0, // O.ai
+    0, // O.w
+    0, // O.h
+    0, // O.c
+    0, // O.p
+    0, // O.b
+    0, // O.x
+    0, // S.c
+    0, // S.t
+    0, // M.p
+    0, // M.a
+    0, // M.f
+    0, // M.fd
+    0, // M.m
+    0, // M.d
+    0, // M.v
+    0, // M.h
+    0, // M.t
+    0, // M.du
+    0, // M.dud
+    0, // M.i
+    0, // M.r
+    0, // M.x
+    1, // W.w
+    0, // W.s
+    1, // R.t
+    0, // R.x
+    1, // X.t
+];
+
+// The place of each element's first field, by the element's number; one past the table for an element without fields.
+pub const FIRSTS: [usize; 10] = [
+    52, // unknown
+    0, // MP
+    6, // P
+    14, // A
+    24, // O
+    31, // S
+    33, // M
+    47, // W
+    49, // R
+    51, // X
+];
+
+// How many fields each element has.
+pub const COUNTS: [usize; 10] = [
+    0, // unknown
+    6, // MP
+    8, // P
+    10, // A
+    7, // O
+    2, // S
+    14, // M
+    2, // W
+    2, // R
+    1, // X
+];
+
+// Each element's name in its tags, as a key; an unknown element has none.
+pub const TAGS: [u64; 10] = [
+    1, // unknown
+    86093, // MP
+    336, // P
+    321, // A
+    335, // O
+    339, // S
+    333, // M
+    343, // W
+    338, // R
+    344, // X
+];
+
+// The names of elements as keys, by the parent that may hold them.
+pub const CHILD_KEYS: [u64; 9] = [
+    336, // P in MP
+    321, // A in MP
+    335, // O in MP
+    339, // S in MP
+    333, // M in S
+    338, // R in S
+    344, // X in S
+    343, // W in M
+    86093, // MP in outside
+];
+
+// The number of the element of each of these names.
+pub const CHILD_KINDS: [u8; 9] = [
+    2, // P in MP
+    3, // A in MP
+    4, // O in MP
+    5, // S in MP
+    6, // M in S
+    8, // R in S
+    9, // X in S
+    7, // W in M
+    1, // MP in outside
+];
+
+// The place of the first name that a parent may hold, by the parent's number; number 10 is outside of all elements.
+pub const CHILD_FIRSTS: [usize; 11] = [
+    0, // unknown
+    0, // MP
+    4, // P
+    4, // A
+    4, // O
+    4, // S
+    7, // M
+    8, // W
+    8, // R
+    8, // X
+    8, // outside
+];
+
+// How many names a parent may hold.
+pub const CHILD_COUNTS: [usize; 11] = [
+    0, // unknown
+    4, // MP
+    0, // P
+    0, // A
+    0, // O
+    3, // S
+    1, // M
+    0, // W
+    0, // R
+    0, // X
+    1, // outside
+];
+
+// How many of an element its parent may have; 0 is any number.
+pub const MOST_OF: [usize; 10] = [
+    0, // unknown
+    0, // MP
+    1, // P
+    1, // A
+    1, // O
+    0, // S
+    0, // M
+    3, // W
+    0, // R
+    0, // X
+];
+
+// The order inside MP, counted from 1; 0 for an element that stands elsewhere.
+pub const RANKS: [u8; 10] = [
+    0, // unknown
+    0, // MP
+    1, // P
+    2, // A
+    3, // O
+    4, // S
+    0, // M
+    0, // W
+    0, // R
+    0, // X
+];
+
+// Of each two fields that exclude each other, the place of the one among its element's fields.
+pub const PAIR_ONES: [usize; 10] = [
+    0, // A: lanr or idf
+    0, // A: lanr or kik
+    1, // A: idf or kik
+    0, // S: c or t
+    2, // M: f or fd
+    4, // M: m or t
+    5, // M: d or t
+    6, // M: v or t
+    7, // M: h or t
+    9, // M: du or dud
+];
+
+// Of each two fields that exclude each other, the place of the other.
+pub const PAIR_OTHERS: [usize; 10] = [
+    1, // A: lanr or idf
+    2, // A: lanr or kik
+    2, // A: idf or kik
+    1, // S: c or t
+    3, // M: f or fd
+    8, // M: m or t
+    8, // M: d or t
+    8, // M: v or t
+    8, // M: h or t
+    10, // M: du or dud
+];
+
+// The place of each element's first excluded pair.
+pub const PAIR_FIRSTS: [usize; 10] = [
+    0, // unknown
+    0, // MP
+    0, // P
+    0, // A
+    3, // O
+    3, // S
+    4, // M
+    10, // W
+    10, // R
+    10, // X
+];
+
+// How many excluded pairs each element has.
+pub const PAIR_COUNTS: [usize; 10] = [
+    0, // unknown
+    0, // MP
+    0, // P
+    3, // A
+    0, // O
+    1, // S
+    6, // M
+    0, // W
+    0, // R
+    0, // X
+];

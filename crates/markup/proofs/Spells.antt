@@ -1,0 +1,109 @@
+-- Spells: the fresh spelling of a value byte by byte, and the comparison of a page's bytes with a word.
+-- Assumes nothing.
+use mathlib.Core.Path.{_≡_, refl, sym, ap, _∙_}
+use mathlib.Core.Bool.{Bool, true, false, _&&_}
+use mathlib.Core.List.{List, _++_}
+use Prim.Native.Nat.{ℕ, suc, _+_, _-_, _≤_, _<_}
+use native.Mathlib.Nat.{add-zero, add-assoc}
+use native.Mathlib.Numerals.{add-one}
+use native.Mathlib.Omega.{arith}
+use lib.Dec.{eqb}
+use lib.ListN.{length, getD, drop, length-append, drop-of-length-le}
+use lib.Seq.{slice, slice-cons, slice-empty, length-slice, drop-cons}
+use borrow.Author.Tests.{eq-eqb, ne-eqb}
+use Rattle.paper.specs.Lists.{same}
+use Rattle.paper.specs.Values.{esc, escape}
+use Rattle.paper.proofs.Small.{same-eq}
+use Rattle.markup.specs.Laid.{laid}
+use Rattle.markup.proofs.LaidLaws.{Laying, start, told, next-piece, all-laid}
+
+-- ---- spelling
+
+-- the first byte's spelling, then that of the rest
+pub escape-first : (w : List ℕ) (i to : ℕ) → i < to → to ≤ length w → escape (slice i to w) ≡ esc (getD w i 0) ++ escape (slice (i + 1) to w)
+escape-first w i to h k = rw (add-one, slice-cons i to w 0 h k)
+
+-- a byte's spelling adds to the length
+pub longer : (w : List ℕ) (n i to : ℕ) → i < to → to ≤ length w
+    → n + length (escape (slice i to w)) ≡ n + length (esc (getD w i 0)) + length (escape (slice (i + 1) to w))
+longer w n i to h k = rw (escape-first w i to h k, length-append) (sym (add-assoc n (length (esc (getD w i 0))) (length (escape (slice (i + 1) to w)))))
+
+-- no byte is left
+pub no-longer : (w : List ℕ) (n i to : ℕ) → i ≡ to → n + length (escape (slice i to w)) ≡ n
+no-longer w n i to e = rw (e, slice-empty to w) (add-zero n)
+
+-- ---- comparing
+
+-- bytes and a word of other lengths are not the same
+pub other-length : (w word : List ℕ) (from to : ℕ) → from ≤ to → to ≤ length w → (to - from ≡ length word → ⊥) → same (slice from to w) word ≡ false
+other-length w word from to h k n = go (same (slice from to w) word) refl
+  where
+    go : (t : Bool) → same (slice from to w) word ≡ t → t ≡ false
+    go true e = absurd (n (sym (length-slice from to w k) ∙ ap length (same-eq (slice from to w) word e)))
+    go false e = refl
+
+module _ (w word : List ℕ) (from to i : ℕ) (h : from + i < to) (k : to ≤ length w) (l : i < length word) where
+  both : same (slice (from + i) to w) (drop i word) ≡ eqb (getD w (from + i) 0) (getD word i 0) && same (slice (from + (i + 1)) to w) (drop (i + 1) word)
+  both =
+      let e : from + (i + 1) ≡ suc (from + i) = omega arith in
+      rw (e, slice-cons (from + i) to w 0 h k, drop-cons word i 0 l, add-one i)
+
+  -- equal bytes leave it to the rest
+  pub spells-on : getD w (from + i) 0 ≡ getD word i 0 → same (slice (from + i) to w) (drop i word) ≡ same (slice (from + (i + 1)) to w) (drop (i + 1) word)
+  spells-on q = both ∙ rw (eq-eqb (getD w (from + i) 0) (getD word i 0) q)
+
+  -- unequal bytes decide it
+  pub spells-off : (getD w (from + i) 0 ≡ getD word i 0 → ⊥) → same (slice (from + i) to w) (drop i word) ≡ false
+  spells-off q = both ∙ rw (ne-eqb (getD w (from + i) 0) (getD word i 0) q)
+
+-- nothing is left of either
+pub spells-end : (w word : List ℕ) (from to i : ℕ) → from + i ≡ to → length word ≤ i → same (slice (from + i) to w) (drop i word) ≡ true
+spells-end w word from to i e h = rw (e, slice-empty to w, drop-of-length-le word h)
+
+-- ---- the loop of spelling
+
+-- the value w from `from` to `to` is spelled up to i, into a room from `at` up to n
+pub record Held (w out₀ out : List ℕ) (from to at n i : ℕ) : Type 0 where
+  pub begun : from ≤ i
+  pub within : i ≤ to
+  pub inside : to ≤ length w
+  pub fits : n + length (escape (slice i to w)) ≤ length out₀
+  pub here : at ≤ length out₀
+  pub laying : Laying out₀ out at n (escape (slice from to w)) (escape (slice i to w))
+
+-- nothing is spelled yet
+pub first : (w out : List ℕ) (from to at : ℕ) → from ≤ to → to ≤ length w → at + length (escape (slice from to w)) ≤ length out → Held w out out from to at at from
+first w out from to at h k l = record {
+  begun = omega arith;
+  within = h;
+  inside = k;
+  fits = l;
+  here = omega arith;
+  laying = start out at (escape (slice from to w)) (omega arith);
+}
+
+module _ {w out₀ out : List ℕ} {from to at n i : ℕ} (H : Held w out₀ out from to at n i) (h : i < to) where
+  -- the next byte's spelling has room
+  pub room : n + length (esc (getD w i 0)) + length (escape (slice (i + 1) to w)) ≤ length out₀
+  room = rw (longer w n i to h (H .inside)) at (H .fits)
+
+  -- the next byte's spelling is laid
+  pub turn : (out′ : List ℕ) (n′ : ℕ) → n′ ≡ n + length (esc (getD w i 0)) → out′ ≡ laid out n (esc (getD w i 0)) → Held w out₀ out′ from to at n′ (i + 1)
+  turn out′ n′ a b =
+      let r = room in
+      let f : n + length (esc (getD w i 0)) ≤ length out₀ = omega arith in
+      rw (a, b) record {
+        begun = omega arith;
+        within = omega arith;
+        inside = H .inside;
+        fits = room;
+        here = H .here;
+        laying = next-piece (H .laying) (esc (getD w i 0)) (escape (slice (i + 1) to w)) (escape-first w i to h (H .inside)) f;
+      }
+
+-- all is spelled
+pub last : {w out₀ out : List ℕ} {from to at n i : ℕ} → Held w out₀ out from to at n i → to ≤ i
+    → (n ≡ at + length (escape (slice from to w))) × (out ≡ laid out₀ at (escape (slice from to w)))
+last {w} {out₀} {out} {from} {to} {at} {n} {i} H h =
+    let q : i ≡ to = let u = H .within in omega arith in
+    all-laid (H .here) (told (H .laying) (rw (q, slice-empty to w)))
