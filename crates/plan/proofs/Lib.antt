@@ -1,0 +1,7 @@
+-- The laws about a plan as numbers. What each file is for stands in its first line.
+pub mod Stores
+pub mod Spans
+pub mod Shown
+pub mod Kept
+pub mod Doses
+pub mod Worked
