@@ -18,6 +18,8 @@ use markup::walk::Mark;
 use markup::walk::Piece;
 use markup::walk::next_attr;
 use markup::walk::next_tag;
+use sheet::judge::Verdict;
+use sheet::judge::judge_page;
 
 // The class of a byte as a number.
 #[no_mangle]
@@ -154,4 +156,18 @@ pub extern "C" fn probe_keeps(id: usize, value: &[u8]) -> u8 {
         return 1;
     }
     0
+}
+
+// The refusal number of a page, 2 to 8, with its place in `told`; 0 if the page has no fault.
+#[no_mangle]
+pub extern "C" fn probe_judge(page: &[u8], told: &mut [usize; 1]) -> u8 {
+    let mut scratch = [0u8; 1400];
+    let verdict = judge_page(page, &mut scratch);
+    match verdict {
+        Verdict::Refused { number, place } => {
+            told[0] = place as usize;
+            number
+        }
+        Verdict::Fine => 0,
+    }
 }

@@ -24,6 +24,7 @@ mod border {
         pub fn probe_child(parent: u8, name: *const u8, length: usize) -> u8;
         pub fn probe_field(element: u8, name: *const u8, length: usize) -> usize;
         pub fn probe_keeps(id: usize, value: *const u8, length: usize) -> u8;
+        pub fn probe_judge(page: *const u8, length: usize, told: *mut [usize; 1]) -> u8;
     }
 }
 
@@ -128,4 +129,14 @@ pub fn field(element: u8, name: &[u8]) -> usize {
 pub fn keeps(id: usize, value: &[u8]) -> u8 {
     // SAFETY: the value is one slice, which is only read.
     unsafe { border::probe_keeps(id, value.as_ptr(), value.len()) }
+}
+
+/// A page judged: nothing where it has no fault, else its refusal number 2 to 8 and the place.
+pub fn judge(page: &[u8]) -> Result<(), (u8, usize)> {
+    let mut place = [0];
+    // SAFETY: the page is one slice, which is only read; `told` has the one number that is written.
+    match unsafe { border::probe_judge(page.as_ptr(), page.len(), &mut place) } {
+        0 => Ok(()),
+        number => Err((number, place[0])),
+    }
 }

@@ -30,12 +30,15 @@ pub fn differences(seed: u64) -> Vec<String> {
     found
 }
 
-/// What is compared for a set of pages: each page's bytes and markup.
+/// What is compared for a set of pages: each page's bytes, its markup, and its refusal of 2 to 8 with the place.
 pub fn set(title: &str, pages: &[Vec<u8>], found: &mut Vec<String>) {
     for (at, page) in pages.iter().enumerate() {
         let name = |what: &str| format!("{title}, page {}: {what}", at + 1);
         refused_byte(page, &name, found);
         markup(page, &name, found);
+        if crate::judge(page) != second::page::judge(page).map(|_| ()) {
+            found.push(name("its refusal number and place"));
+        }
     }
 }
 

@@ -1,0 +1,9 @@
+pub mod FlawLaws
+pub mod FoldContent
+pub mod FoldJudge
+pub mod FoundLaws
+pub mod JudgeLaws
+pub mod LeastLaws
+pub mod Nesting
+pub mod Places
+pub mod StateLaws

@@ -1,0 +1,322 @@
+// The faults of an element's own tag beside 5: what is wrong with its values (6, 7, 8), and whether an M still needs a W.
+ghost use mathlib.Core.Path.{_≡_};
+ghost use mathlib.Core.Bool.{false};
+ghost use mathlib.Core.List.{List};
+ghost use Prim.Native.Nat.{_≤_, _<_, min};
+ghost use lib.ListN.{length, take, getD};
+ghost use Rattle.paper.specs.Values.{value};
+ghost use Rattle.paper.specs.Fields.{fieldsOf};
+ghost use Rattle.paper.specs.Grammar.{Attr};
+ghost use Rattle.paper.specs.Rules.{settle};
+ghost use Rattle.paper.specs.Judging.{names, slotsOf, broken, mpVersion};
+ghost use Rattle.fields.specs.Places.{kindAt, ruleAt, fieldAt};
+ghost use Rattle.fields.specs.Columns.{ruleColumn, leastColumn, mostColumn, tildeColumn, mustColumn};
+ghost use Rattle.sheet.specs.Fold.{flaw, needsW};
+ghost use Rattle.sheet.specs.Found.{shownBy, Tells};
+ghost use Rattle.sheet.specs.Flaws.{slotsAt, settleBy, fieldFlaw, fieldsFlaw, pagesFlaw, digitsFlaw, clashAt};
+use crate::found::Raw;
+use fields::dose::is_zero;
+use fields::lookup::count_of;
+use fields::lookup::first_of;
+use fields::lookup::leasts;
+use fields::lookup::mosts;
+use fields::lookup::musts;
+use fields::lookup::pair_one;
+use fields::lookup::pair_other;
+use fields::lookup::pairs_of;
+use fields::lookup::rules;
+use fields::lookup::tildes;
+use fields::rules::keeps_in;
+use markup::values::decode;
+use markup::values::spells;
+
+// The numbers of the elements MP and M.
+const PLAN: u8 = 1;
+
+const MEDICATION: u8 = 6;
+
+// The places of v, a and z among MP's fields.
+const EDITION: usize = 0;
+
+const NUMBER: usize = 4;
+
+const COUNT: usize = 5;
+
+// The places of p and a among M's fields.
+const PACKAGE: usize = 0;
+
+const NAME: usize = 1;
+
+// The lesser of two numbers.
+fn lesser(a: usize, b: usize) -> usize
+    ensures { λ r. ⌜ r ≡ min a b ⌝ }
+{
+    if a < b {
+        return a;
+    }
+    b
+}
+
+// Writes the value that a span shows in the page into `scratch` from 0 on, and tells how many bytes it has: none where the attribute is not there.
+fn value_len(page: &[u8], raw: Raw, scratch: &mut [u8]) -> usize
+    requires { ⌜ length (now page) ≤ length (now scratch) ⌝ }
+    ensures { λ r. ⌜ (take r (now (scratch .exit)) ≡ value (shownBy (now (page .entry)) raw)) × (r ≤ length (now (scratch .entry))) ⌝ }
+{
+    let at = raw.at as usize;
+    let end = lesser(raw.end as usize, page.len());
+    if at >= end {
+        return 0;
+    }
+    decode(page, at, end, scratch, 0)
+}
+
+// The same of the value that counts under a rule: a dose that is exactly "0" is absent.
+fn settled_len(page: &[u8], raw: Raw, rule: u8, scratch: &mut [u8]) -> usize
+    requires { ⌜ length (now page) ≤ length (now scratch) ⌝ }
+    ensures { λ r. ⌜ (take r (now (scratch .exit)) ≡ settleBy (ruleAt rule) (value (shownBy (now (page .entry)) raw))) × (r ≤ length (now (scratch .entry))) ⌝ }
+{
+    let n = value_len(page, raw, scratch);
+    if is_zero(rule, &scratch[..n]) {
+        return 0;
+    }
+    n
+}
+
+// The first byte of the value that a span shows, 0 if there is none.
+fn first_byte(page: &[u8], raw: Raw, scratch: &mut [u8]) -> u8
+    requires { ⌜ length (now page) ≤ length (now scratch) ⌝ }
+    ensures { λ r. ⌜ r ≡ getD (value (shownBy (now (page .entry)) raw)) 0 0 ⌝ }
+{
+    let n = value_len(page, raw, scratch);
+    if n == 0 {
+        return 0;
+    }
+    scratch[0]
+}
+
+// The fault of the field at a place of the table: 7 if its value breaks it, 8 if it must be present and is not, 9 if none.
+fn field_flaw(
+    page: &[u8],
+    raw: Raw,
+    id: usize,
+    rules: &[u8; 52],
+    leasts: &[u16; 52],
+    mosts: &[u16; 52],
+    tildes: &[u8; 52],
+    musts: &[u8; 52],
+    scratch: &mut [u8],
+) -> u8
+    requires { ⌜ (length (now page) ≤ length (now scratch)) × (id < 52) × (now rules ≡ ruleColumn) × (now leasts ≡ leastColumn) × (now mosts ≡ mostColumn)
+        × (now tildes ≡ tildeColumn) × (now musts ≡ mustColumn) ⌝ }
+    ensures { λ r. ⌜ r ≡ fieldFlaw (fieldAt id) (settle (fieldAt id) (value (shownBy (now (page .entry)) raw))) ⌝ }
+{
+    let n = settled_len(page, raw, rules[id], scratch);
+    if n == 0 {
+        if musts[id] == 1 {
+            return 8;
+        }
+        return 9;
+    }
+    if keeps_in(rules, leasts, mosts, tildes, id, &scratch[..n]) {
+        return 9;
+    }
+    7
+}
+
+// The least fault of an element's fields: 7 if some value breaks its field, else 8 if one that must be present is missing, else 9.
+fn fields_flaw(
+    page: &[u8],
+    kind: u8,
+    raws: [Raw; 16],
+    rules: &[u8; 52],
+    leasts: &[u16; 52],
+    mosts: &[u16; 52],
+    tildes: &[u8; 52],
+    musts: &[u8; 52],
+    scratch: &mut [u8],
+) -> u8
+    requires { ⌜ (length (now page) ≤ length (now scratch)) × (kind < 10) × (now rules ≡ ruleColumn) × (now leasts ≡ leastColumn) × (now mosts ≡ mostColumn)
+        × (now tildes ≡ tildeColumn) × (now musts ≡ mustColumn) ⌝ }
+    ensures { λ r. ⌜ r ≡ fieldsFlaw 9 (fieldsOf (kindAt kind)) (slotsAt (now (page .entry)) (kindAt kind) raws) ⌝ }
+{
+    let first = first_of(kind);
+    let count = count_of(kind);
+    let mut worst = 9;
+    let mut j = 0;
+    while j < count {
+        let flaw = field_flaw(
+            page,
+            raws[j],
+            first + j,
+            rules,
+            leasts,
+            mosts,
+            tildes,
+            musts,
+            scratch,
+        );
+        let next = j + 1;
+        if flaw == 7 {
+            return 7;
+        }
+        if flaw == 8 {
+            worst = 8;
+            j = next;
+        } else {
+            j = next;
+        }
+    }
+    worst
+}
+
+// Whether an element is MP and its v is not the edition 027.
+fn edition_differs(page: &[u8], kind: u8, raws: [Raw; 16], scratch: &mut [u8]) -> bool
+    requires { ⌜ (length (now page) ≤ length (now scratch)) × (kind < 10) ⌝ }
+    ensures { λ r. ⌜ r ≡ mpVersion (kindAt kind) (slotsAt (now (page .entry)) (kindAt kind) raws) ⌝ }
+{
+    if kind != PLAN {
+        return false;
+    }
+    let n = value_len(page, raws[EDITION], scratch);
+    if spells(scratch, 0, n, b"027") {
+        return false;
+    }
+    true
+}
+
+// The fault of a page's number a and the count of pages z by their digits, 0 for an absent one.
+fn digits_flaw(a: u8, z: u8) -> u8
+    ensures { λ r. ⌜ r ≡ digitsFlaw a z ⌝ }
+{
+    if z == 0 {
+        if a == 0 {
+            return 9;
+        }
+        return 8;
+    }
+    if a == 0 {
+        return 8;
+    }
+    if z < a {
+        return 7;
+    }
+    9
+}
+
+// The fault of MP's a and z, where each keeps its field: 7 if a is above z, 8 if one stands without the other, else 9.
+fn pages_flaw(page: &[u8], kind: u8, raws: [Raw; 16], scratch: &mut [u8]) -> u8
+    requires { ⌜ (length (now page) ≤ length (now scratch)) × (kind < 10) × (broken (fieldsOf (kindAt kind)) (slotsAt (now page) (kindAt kind) raws) ≡ false) ⌝ }
+    ensures { λ r. ⌜ r ≡ pagesFlaw (kindAt kind) (slotsAt (now (page .entry)) (kindAt kind) raws) ⌝ }
+{
+    if kind != PLAN {
+        return 9;
+    }
+    let a = first_byte(page, raws[NUMBER], scratch);
+    let z = first_byte(page, raws[COUNT], scratch);
+    digits_flaw(a, z)
+}
+
+// Whether two fields that exclude each other stand in the tag, empty or not.
+fn clashes(kind: u8, raws: [Raw; 16]) -> bool
+    requires { ⌜ kind < 10 ⌝ }
+    ensures { λ r. ⌜ r ≡ clashAt (kindAt kind) raws ⌝ }
+{
+    let pairs = pairs_of(kind);
+    let mut i = 0;
+    while i < pairs {
+        let one = raws[pair_one(kind, i)];
+        let other = raws[pair_other(kind, i)];
+        let next = i + 1;
+        if one.at == 0 {
+            i = next;
+        } else if other.at == 0 {
+            i = next;
+        } else {
+            return true;
+        }
+    }
+    false
+}
+
+// The least of 6, 7 and 8 that a tag's own values give, 9 if none, with the columns of the table handed down by a caller that copies them once.
+pub fn flaw_in(
+    page: &[u8],
+    kind: u8,
+    raws: [Raw; 16],
+    rules: &[u8; 52],
+    leasts: &[u16; 52],
+    mosts: &[u16; 52],
+    tildes: &[u8; 52],
+    musts: &[u8; 52],
+    scratch: &mut [u8],
+) -> u8
+    requires { ⌜ (length (now page) ≤ length (now scratch)) × (kind < 10) × (now rules ≡ ruleColumn) × (now leasts ≡ leastColumn) × (now mosts ≡ mostColumn)
+        × (now tildes ≡ tildeColumn) × (now musts ≡ mustColumn) ⌝ }
+    ensures { λ r. ⌜ ((l : List Attr) → Tells (now (page .entry)) (kindAt kind) raws l → r ≡ flaw (kindAt kind) (names l) (slotsOf (fieldsOf (kindAt kind)) l)) ⌝ }
+{
+    if edition_differs(page, kind, raws, scratch) {
+        return 6;
+    }
+    let own = fields_flaw(
+        page,
+        kind,
+        raws,
+        rules,
+        leasts,
+        mosts,
+        tildes,
+        musts,
+        scratch,
+    );
+    if own == 7 {
+        return 7;
+    }
+    let pages = pages_flaw(page, kind, raws, scratch);
+    if pages < 9 {
+        return pages;
+    }
+    if own == 8 {
+        return 8;
+    }
+    if clashes(kind, raws) {
+        return 8;
+    }
+    9
+}
+
+// The least of 6, 7 and 8 that a tag's own values give, 9 if none. `scratch` is room for one value; what it then holds is of no meaning.
+pub fn flaw_of(page: &[u8], kind: u8, raws: [Raw; 16], scratch: &mut [u8]) -> u8
+    requires { ⌜ (length (now page) ≤ 1400) × (length (now page) ≤ length (now scratch)) × (kind < 10) ⌝ }
+    ensures { λ r. ⌜ ((l : List Attr) → Tells (now (page .entry)) (kindAt kind) raws l → r ≡ flaw (kindAt kind) (names l) (slotsOf (fieldsOf (kindAt kind)) l)) ⌝ }
+{
+    let rules = rules();
+    let leasts = leasts();
+    let mosts = mosts();
+    let tildes = tildes();
+    let musts = musts();
+    flaw_in(
+        page,
+        kind,
+        raws,
+        &rules,
+        &leasts,
+        &mosts,
+        &tildes,
+        &musts,
+        scratch,
+    )
+}
+
+// Whether an element with these values is an M that has neither p nor a.
+pub fn needs_w(page: &[u8], kind: u8, raws: [Raw; 16], scratch: &mut [u8]) -> bool
+    requires { ⌜ (length (now page) ≤ 1400) × (length (now page) ≤ length (now scratch)) × (kind < 10) ⌝ }
+    ensures { λ r. ⌜ ((l : List Attr) → Tells (now (page .entry)) (kindAt kind) raws l → r ≡ needsW (kindAt kind) (slotsOf (fieldsOf (kindAt kind)) l)) ⌝ }
+{
+    if kind != MEDICATION {
+        return false;
+    }
+    if value_len(page, raws[PACKAGE], scratch) != 0 {
+        return false;
+    }
+    value_len(page, raws[NAME], scratch) == 0
+}
