@@ -195,20 +195,39 @@ tagged-least : (f : Fault) (fs : List Fault) → 5 ≤ f .no → f .no ≤ 8 →
 tagged-least f [] a b t = (a, b)
 tagged-least f (g ∷ fs) a b t = let l = tagged-lower f g a b (t .0) (t .1) in tagged-least (lower f g) fs (l .0) (l .1) (t .2)
 
--- a page's refusal is one of 2 to 8
-pub two-to-eight : (w : List ℕ) (n i : ℕ) → judge w ≡ refused n i → (2 ≤ n) × (n ≤ 8)
+-- a page's refusal: one of 2 to 8, and that of its size at place 0
+record Refuses (n i : ℕ) : Type 0 where
+  low : 2 ≤ n
+  high : n ≤ 8
+  at-size : n ≡ 2 → i ≡ 0
+
+refuses : (w : List ℕ) (n i : ℕ) → judge w ≡ refused n i → Refuses n i
 unfolding judge
-two-to-eight w n i e = at (eqb (length w) 0 || ltb 1400 (length w)) (every isAllowed w) (scan before w) e
+refuses w n i e = at (eqb (length w) 0 || ltb 1400 (length w)) (every isAllowed w) (scan before w) e
   where
-    last : (fs : List Fault) (xs : List Item) → Tagged fs → verdict fs xs ≡ refused n i → (2 ≤ n) × (n ≤ 8)
+    above : 3 ≤ n → n ≤ 8 → Refuses n i
+    above g h = record { low = omega arith; high = h; at-size = λ q. absurd (omega arith) }
+
+    last : (fs : List Fault) (xs : List Item) → Tagged fs → verdict fs xs ≡ refused n i → Refuses n i
     last [] xs t e = unequal (cc)
     last (f ∷ fs) xs t e =
         let l = tagged-least f fs (t .0) (t .1) (t .2) in
         let q : (least f fs) .no ≡ n = cc in
-        (omega arith, omega arith)
+        above (omega arith) (omega arith)
 
-    at : (b c : Bool) (o : Option (List Tag)) → if b (refused 2 0) (if c (judgeTags o w) (refused 3 (until isAllowed w))) ≡ refused n i → (2 ≤ n) × (n ≤ 8)
-    at true c o e = let q : 2 ≡ n = cc in (omega arith, omega arith)
-    at false false o e = let q : 3 ≡ n = cc in (omega arith, omega arith)
-    at false true none e = let q : 4 ≡ n = cc in (omega arith, omega arith)
+    at : (b c : Bool) (o : Option (List Tag)) → if b (refused 2 0) (if c (judgeTags o w) (refused 3 (until isAllowed w))) ≡ refused n i → Refuses n i
+    at true c o e =
+        let q : 2 ≡ n = cc in
+        let p : 0 ≡ i = cc in
+        record { low = omega arith; high = omega arith; at-size = λ z. sym p }
+    at false false o e = let q : 3 ≡ n = cc in above (omega arith) (omega arith)
+    at false true none e = let q : 4 ≡ n = cc in above (omega arith) (omega arith)
     at false true (some t) e = last (faults [] (placed (length w) t)) (items [] (placed (length w) t)) (tagged [] (placed (length w) t)) e
+
+-- a page's refusal is one of 2 to 8
+pub two-to-eight : (w : List ℕ) (n i : ℕ) → judge w ≡ refused n i → (2 ≤ n) × (n ≤ 8)
+two-to-eight w n i e = let r = refuses w n i e in (r .low, r .high)
+
+-- a page that is refused for its size is refused at place 0
+pub size-place : (w : List ℕ) (n i : ℕ) → judge w ≡ refused n i → n ≡ 2 → i ≡ 0
+size-place w n i e = refuses w n i e .at-size

@@ -272,7 +272,7 @@ rows-text : (rs : List Row) → AllSound rs → length (concat (rowsValues rs)) 
 rows-text [] a = omega arith
 rows-text (r ∷ rs) a = omega (arith, concat-append (rowValues r) (rowsValues rs), row-text (a .0), rows-text rs (a .1))
 
-head-text : (h : Head) → soundHead h ≡ true → length (concat (headValues h)) ≤ headWeight h
+pub head-text : (h : Head) → soundHead h ≡ true → length (concat (headValues h)) ≤ headWeight h
 head-text h e =
     let k = head-sound h e in
     omega (

@@ -1,4 +1,6 @@
--- What the contracts of reading cite beside paper's definitions: all of it is the interface.
+-- What reading promises (Promise), with the numbers of its answer (Answers); the other definitions serve the code.
+pub mod Promise
+pub mod Answers
 pub mod Lent
 pub mod Pages
-pub mod Answers
+pub mod Joining

@@ -1,6 +1,9 @@
-// Reading a call's pages: whether the call is well made (`call`), the numbers of its pages (`pages`), and the answer that is given (`answer`).
+// Reading a call's pages: whether the call is well made (`call`), the numbers of its pages (`pages`), the answer that is given (`answer`), the pages
+// joined (`joining`), and the one public function `read` (`reading`).
 //
-// The contracts cite the definitions of the crate `paper`, and those of specs/ where code goes by other numbers.
+// The contracts cite the definitions of the crate `paper`, and those of specs/ where code goes by other numbers. `specs/Promise.antt` is the promise of `read`.
 pub mod answer;
 pub mod call;
+pub mod joining;
 pub mod pages;
+pub mod reading;

@@ -1,0 +1,415 @@
+-- ReadingLaws: the steps of reading, each against document 01's answer: the call, the pages judged one by one, what pages without faults give their readers,
+-- and the join step by step.
+-- Assumes nothing.
+use mathlib.Core.Path.{_≡_, refl, ap, sym, _∙_, subst}
+use mathlib.Core.Bool.{Bool, true, false, not, _&&_, _||_}
+use mathlib.Core.List.{List, [], _∷_, _++_, append-nil}
+use Prim.Native.Nat.{ℕ, zero, suc, _+_, _≤_, _<_}
+use native.Mathlib.Numerals.{add-one}
+use native.Mathlib.Omega.{arith}
+use lib.Dec.{eqb, leb}
+use lib.ListN.{length, drop, drop-of-length-le}
+use borrow.Author.Tests.{le-leb, lt-leb}
+use Rattle.paper.specs.Lists.{bytes, if, every, elem, twice, number, concat}
+use Rattle.paper.specs.Grammar.{Attr, Tag, start, end, placed}
+use Rattle.paper.specs.Fields.{Kind, unknown, M, R, S, X, is, Field, fieldsOf, excluded}
+use Rattle.paper.specs.Plan.{Slots, Row, slot, sameHead}
+use Rattle.paper.specs.Plan as Said
+use Rattle.paper.specs.Judging.{names, lettersOf, fault, slotsOf, broken, missing, clash, mpVersion, mpOver, mpHalf, own, Stack, kindIn, misplaced, next, lacks, here, faults, Item, item, items, allEmpty, tail, rowOf, rowsOf, Sheet, Judged, refused, sheet, judge}
+use Rattle.paper.specs.Reading.{Judgement, stopped, sheets, cons, judgeAll, has, other, again, lowest, joined, first, enough, join, decide, read}
+use Rattle.paper.specs.Reading as Paper
+use Rattle.paper.specs.Layout.{headValues, planValues, textOf}
+use Rattle.paper.specs.Collecting.{maskOf}
+use Rattle.paper.specs.Calls.{inside, pagesAt, readAt, roomy, readCall}
+use Rattle.paper.specs.Writing.{sound}
+use Rattle.paper.proofs.Small.{unequal, neither}
+use Rattle.paper.proofs.Exact.{exact}
+use Rattle.paper.proofs.Given.{fault-nil, append-nil-both}
+use Rattle.paper.proofs.Told.{ItemsOk, items-ok, page-placed}
+use Rattle.paper.proofs.PageNumbers.{numbered, two-to-eight, size-place}
+use Rattle.paper.proofs.ReadSound.{judge-ok}
+use Rattle.paper.proofs.Rooms.{sheet-weight, text-weight, rooms}
+use Rattle.markup.specs.Walk.{tagsAt}
+use Rattle.markup.proofs.Walked.{walked}
+use Rattle.plan.specs.Numbers.{planNumbers, planRows}
+use Rattle.plan.specs.Records.{emptyPlan}
+use Rattle.markup.specs.Laid.{laid}
+use Rattle.sheet.specs.Fold.{strange}
+use Rattle.sheet.specs.Content.{kindNamed, wsFrom, rowsFrom, headFrom, contentOf}
+use Rattle.sheet.specs.Laying.{Sound, Fit}
+use Rattle.sheet.specs.Judged.{verdictOf}
+use Rattle.reader.specs.Answers.{numbersOf, numbers, pageRefusal}
+use Rattle.reader.specs.Lent.{rowsLent}
+use Rattle.reader.specs.Pages.{present, absent, numbersIn, firstOf}
+use Rattle.reader.specs.Joining.{sheetsOf, PageFits, AllFit, firstOther, countSaid, planIn, noPlan}
+use Rattle.reader.specs.Promise.{Promised, answered, judgedAs}
+use Rattle.reader.specs.declared.answer.Answer.{Answer}
+use Rattle.reader.specs.declared.answer.Answer.the-variants.{Plan, PageSize, ByteRefused, Malformed, OutOfPlace, OtherEdition, BrokenValue, Incomplete}
+use Rattle.sheet.specs.declared.judge.Verdict.the-variants.{Refused, Fine}
+use Rattle.reader.specs.declared.reading.Reading.{Reading}
+use Rattle.reader.proofs.AnswerLaws.{page-told}
+use Rattle.reader.proofs.CallFacts.{pages-count, call-fits, room-fits}
+use Rattle.sheet.proofs.FoldContent.{kind-in, rows-is}
+use Rattle.reader.proofs.PageLaws as Page
+use Rattle.sheet.proofs.JudgeLaws.{FinePage, fine-content}
+
+-- ---- what a page without faults gives its readers
+
+-- no row has more than three W
+abbrev FewW : List Row → Type 0
+FewW [] = Unit {0}
+FewW (r ∷ rs) = (length (r .ws) ≤ 3) × FewW rs
+
+few-append : (rs qs : List Row) → FewW rs → FewW qs → FewW (rs ++ qs)
+few-append [] qs a b = b
+few-append (r ∷ rs) qs a b = (a .0, few-append rs qs (a .1) b)
+
+few-rest : (rs qs : List Row) → FewW (rs ++ qs) → FewW qs
+few-rest [] qs a = a
+few-rest (r ∷ rs) qs a = few-rest rs qs (a .1)
+
+few-row : (k : Kind) (vs : Slots) (ws : List Slots) → length ws ≤ 3 → FewW (rowOf (item k vs ws))
+few-row k vs ws h = at (is k M) (is k R || is k X || (is k S && not (allEmpty vs)))
+  where
+    at : (b c : Bool) → FewW (if b (record { kind = M; pzn = number 0 (slot (bytes "p") (fieldsOf M) vs); slots = tail vs; ws = ws } ∷ []) (if c (record { kind = k; pzn = 0; slots = vs; ws = [] } ∷ []) []))
+    at true c = (h, tt)
+    at false true = (omega arith, tt)
+    at false false = tt
+
+few-said : (xs : List Item) → ItemsOk xs → FewW (rowsOf xs)
+few-said [] o = tt
+few-said (x ∷ xs) o = few-append (rowOf x) (rowsOf xs) (few-row (x .kind) (x .slots) (x .ws) (o .0 .three)) (few-said xs (o .1))
+
+-- the W of an M are those of its row
+few-ws : (k : Kind) (vs : Slots) (ws : List Slots) (rs : List Row) → is k M ≡ true → FewW (rowOf (item k vs ws) ++ rs) → length ws ≤ 3
+few-ws k vs ws rs e h = (rw e at h) .0
+
+-- a start tag without a fault of its own
+sound-own : (k : Kind) (i : ℕ) (l : List Attr) → own k i l ≡ [] → Sound k l
+unfolding strange
+sound-own k i l e =
+    let fs : List Field = fieldsOf k in
+    let vs : Slots = slotsOf fs l in
+    let ns : List (List ℕ) = names l in
+    let b₅ : Bool = not (every (λ n. elem n (lettersOf fs)) ns) || twice ns in
+    let b₇ : Bool = broken fs vs || mpOver k vs in
+    let b₈ : Bool = missing fs vs || clash (excluded k) ns || mpHalf k vs in
+    let (x₅, e₆) = fault-nil b₅ 5 i (fault (mpVersion k vs) 6 i ++ (fault b₇ 7 i ++ fault b₈ 8 i)) e in
+    let (x₆, e₇) = fault-nil (mpVersion k vs) 6 i (fault b₇ 7 i ++ fault b₈ 8 i) e₆ in
+    let (x₇, e₈) = fault-nil b₇ 7 i (fault b₈ 8 i) e₇ in
+    record { known = x₅; kept = neither (broken fs vs) (mpOver k vs) x₇ .0 }
+
+fit-tags : (ts : List Tag) (st : Stack) → faults st ts ≡ [] → FewW (rowsFrom ts) → Fit ts
+unfolding rowsFrom
+fit-tags [] st f r = tt
+fit-tags (end ∷ ts) [] f r = fit-tags ts [] f r
+fit-tags (end ∷ ts) (F ∷ st) f r = fit-tags ts st (fault-nil (lacks (F .kind) (F .seen) (F .slots)) 8 (F .at) (faults st ts) f .1) r
+fit-tags (start i n l ∷ ts) st f r =
+    let k : Kind = kindNamed n in
+    let vs : Slots = slotsOf (fieldsOf k) l in
+    let (x, y) = append-nil-both (here st (start i n l)) (faults (next st (start i n l)) ts) f in
+    let o = fault-nil (is (kindIn st n) unknown || misplaced st (kindIn st n)) 5 i (own (kindIn st n) i l) x .1 in (
+      subst (λ (j : Kind). Sound j l) (sym (kind-in st i n l x)) (sound-own (kindIn st n) i l o),
+      λ e. few-ws k vs (wsFrom ts) (rowsFrom ts) e r,
+      fit-tags ts (next st (start i n l)) y (few-rest (rowOf (item k vs (wsFrom ts))) (rowsFrom ts) r),
+    )
+
+-- a sheet's head is not longer than a page
+head-short : (w : List ℕ) (s : Sheet) → judge w ≡ sheet s → length (concat (headValues (s .head))) ≤ 1400
+unfolding textOf planValues
+head-short w s e =
+    let p : Said.Plan = record { head = s .head; rows = [] } in
+    let ok : sound p ≡ true = rw (judge-ok w s e .head-ok) in
+    omega (arith, text-weight p ok, sheet-weight w s e, ap (λ (vs : Slots). length (concat vs)) (append-nil (headValues (s .head))))
+
+head-is : (ts : List Tag) → contentOf ts .head ≡ headFrom ts
+unfolding contentOf
+head-is ts = refl
+
+-- a page without faults can be laid out, and its number and count are page numbers
+page-fits : (w : List ℕ) (t : List Tag) → FinePage w t → PageFits w
+page-fits w t P =
+    let ts : List Tag = placed (length w) t in
+    let clean = P .faultless in
+    let few : FewW (rowsFrom ts) = subst FewW (rows-is ts (page-placed (length w) (exact w t .1 (P .whole))) clean) (few-said (items [] ts) (items-ok ts [] tt clean)) in
+    let N = numbered w (contentOf (tagsAt w 0)) (P .content) in
+    record {
+      short = P .few-bytes;
+      fit = subst Fit (sym (walked w t (P .whole))) (fit-tags ts [] clean few);
+      no-small = omega (arith, N .most, N .nine);
+      of-small = N .nine;
+      head-short = rw (← head-is (tagsAt w 0)) (head-short w (contentOf (tagsAt w 0)) (P .content));
+    }
+
+sheet-once : (s t : Sheet) → sheet s ≡ sheet t → s ≡ t
+sheet-once s t e = cc
+
+-- such a page says what its tags say
+said : (w : List ℕ) (s : Sheet) → judge w ≡ sheet s → PageFits w × (s ≡ contentOf (tagsAt w 0))
+said w s e =
+    let (t, P) = fine-content w (ap verdictOf e) in
+    (page-fits w t P, sheet-once s (contentOf (tagsAt w 0)) (sym e ∙ P .content))
+
+-- so do all pages, where none is refused
+pub all-said : (ws : List (List ℕ)) (k : ℕ) (l : List Sheet) → judgeAll k ws ≡ sheets l → AllFit ws × (l ≡ sheetsOf ws)
+all-said [] k [] e = (tt, refl)
+all-said [] k (s ∷ l) e = let y : _≡_ {A = ℕ} 0 1 = cc in unequal y
+all-said (w ∷ ws) k l e = at (judge w) (judgeAll (suc k) ws) refl (λ m q. all-said ws (suc k) m q) e
+  where
+    at : (j : Judged) (J : Judgement) → judge w ≡ j → ((m : List Sheet) → J ≡ sheets m → AllFit ws × (m ≡ sheetsOf ws)) → cons j k J ≡ sheets l → AllFit (w ∷ ws) × (l ≡ sheetsOf (w ∷ ws))
+    at (refused n i) J p h e = let y : _≡_ {A = ℕ} 0 1 = cc in unequal y
+    at (sheet s) (stopped n j i) p h e = let y : _≡_ {A = ℕ} 0 1 = cc in unequal y
+    at (sheet s) (sheets m) p h e =
+        let q : s ∷ m ≡ l = cc in
+        let (a, b) = said w s p in
+        let (c, d) = h m refl in
+        ((a, c), sym q ∙ rw (← b, ← d))
+
+-- ---- the pages judged one by one
+
+module _ (ws : List (List ℕ)) (i : ℕ) (w : List ℕ) (turn : drop i ws ≡ w ∷ drop (suc i) ws) where
+  -- a page that is refused ends it
+  pub stops : (n p : ℕ) → Refused n p ≡ verdictOf (judge w) → pageRefusal n (i + 1) p ≡ judgedAs (judgeAll (i + 1) (drop i ws))
+  stops n p e = rw turn (at (judge w) e)
+    where
+      at : (j : Judged) → Refused n p ≡ verdictOf j → pageRefusal n (i + 1) p ≡ judgedAs (cons j (i + 1) (judgeAll (suc (i + 1)) (drop (suc i) ws)))
+      at (refused m q) e =
+          let x : n ≡ m = cc in
+          let y : p ≡ q = cc in
+          rw (x, y)
+      at (sheet s) e = let y : _≡_ {A = ℕ} 0 1 = cc in unequal y
+
+  -- behind a page without faults it goes on
+  pub goes-on : Fine ≡ verdictOf (judge w) → judgedAs (judgeAll (i + 1) (drop i ws)) ≡ judgedAs (judgeAll (i + 1 + 1) (drop (i + 1) ws))
+  goes-on e = rw (turn, add-one i, add-one (suc i)) (at (judge w) (judgeAll (suc (suc i)) (drop (suc i) ws)) e)
+    where
+      at : (j : Judged) (J : Judgement) → Fine ≡ verdictOf j → judgedAs (cons j (suc i) J) ≡ judgedAs J
+      at (refused m q) J e = let y : _≡_ {A = ℕ} 0 1 = cc in unequal y
+      at (sheet s) (stopped n k q) e = refl
+      at (sheet s) (sheets l) e = refl
+
+-- no page is left
+pub none-refused : (ws : List (List ℕ)) (i : ℕ) → length ws ≤ i → Plan ≡ judgedAs (judgeAll (i + 1) (drop i ws))
+none-refused ws i h = rw (drop-of-length-le ws h)
+
+-- where the pages stop, the refusal carries their numbers
+record Told (J : Judgement) : Type 0 where
+  tells : (n k i : ℕ) → J ≡ stopped n k i → numbersOf (pageRefusal n k i) ≡ numbers n k i
+
+told-all : (ws : List (List ℕ)) (k : ℕ) → Told (judgeAll k ws)
+told-all [] k = record { tells = λ n j i e. let y : _≡_ {A = ℕ} 0 1 = cc in unequal y }
+told-all (w ∷ ws) k = at (judge w) refl (judgeAll (suc k) ws) (told-all ws (suc k))
+  where
+    at : (j : Judged) → judge w ≡ j → (J : Judgement) → Told J → Told (cons j k J)
+    at (refused m q) p J t =
+        let (a, b) = two-to-eight w m q p in
+        record {
+          tells = λ n j i e.
+              let x : m ≡ n = cc in
+              let y : k ≡ j = cc in
+              let z : q ≡ i = cc in
+              rw (← x, ← y, ← z) (page-told m k q a b (size-place w m q p));
+        }
+    at (sheet s) p (stopped m j q) t = t
+    at (sheet s) p (sheets l) t = record { tells = λ n j i e. let y : _≡_ {A = ℕ} 0 1 = cc in unequal y }
+
+-- no refusal of a page has the number 0
+refusal-not-zero : (n k i : ℕ) → numbersOf (pageRefusal n k i) .number ≡ 0 → ⊥
+unfolding pageRefusal
+refusal-not-zero n k i e = at (eqb n 2) (eqb n 3) (eqb n 4) (eqb n 5) (eqb n 6) (eqb n 7) e
+  where
+    at : (a b c d f g : Bool) → numbersOf (if a (PageSize k) (if b (ByteRefused k i) (if c (Malformed k i) (if d (OutOfPlace k i) (if f (OtherEdition k i) (if g (BrokenValue k i) (Incomplete k i))))))) .number ≡ 0 → ⊥
+    at true b c d f g e = omega arith
+    at false true c d f g e = omega arith
+    at false false true d f g e = omega arith
+    at false false false true f g e = omega arith
+    at false false false false true g e = omega arith
+    at false false false false false true e = omega arith
+    at false false false false false false e = omega arith
+
+-- ---- the join, step by step
+
+first-taken : (k : ℕ) (r a : Paper.Answer) → (k ≡ 0 → ⊥) → first k r a ≡ r
+first-taken zero r a h = absurd (h refl)
+first-taken (suc k) r a h = refl
+
+-- the first page whose head or count differs, and the first whose number came before, are pages of the call
+other-within : (s : Sheet) (k : ℕ) (l : List Sheet) → other s k l ≤ k + length l
+other-within s k [] = omega arith
+other-within s k (t ∷ l) = at (eqb (t .of) (s .of) && sameHead (t .head) (s .head)) (other-within s (suc k) l)
+  where
+    at : (b : Bool) → other s (suc k) l ≤ suc k + length l → if b (other s (suc k) l) k ≤ k + suc (length l)
+    at true h = omega (arith, h)
+    at false h = omega arith
+
+pub other-small : (l : List Sheet) → firstOther l ≤ 2 + length l
+other-small [] = omega arith
+other-small (s ∷ l) = omega (arith, other-within s 2 l)
+
+pub again-within : (was : List Sheet) (k : ℕ) (l : List Sheet) → again was k l ≤ k + length l
+again-within was k [] = omega arith
+again-within was k (s ∷ l) = at (has (s .no) was) (again-within (s ∷ was) (suc k) l)
+  where
+    at : (b : Bool) → again (s ∷ was) (suc k) l ≤ suc k + length l → if b k (again (s ∷ was) (suc k) l) ≤ k + suc (length l)
+    at true h = omega arith
+    at false h = omega (arith, h)
+
+-- document 01's order: the four tests one after another, then the plan
+join-is : (l : List Sheet) → 1 ≤ length l
+    → join l ≡ first (firstOther l) (Paper.refusal 9 (firstOther l) 0)
+    (first (again [] 1 l) (Paper.refusal 10 (again [] 1 l) 0)
+    (first (lowest l 1 (countSaid l)) (Paper.refusal 11 (lowest l 1 (countSaid l)) 0) (enough (planIn l noPlan))))
+join-is [] h = absurd (omega arith)
+join-is (s ∷ l) h = refl
+
+rows-in : (l : List Sheet) → 1 ≤ length l → planIn l noPlan .rows ≡ joined l 1 (countSaid l)
+rows-in [] h = absurd (omega arith)
+rows-in (s ∷ l) h = refl
+
+module _ (l : List Sheet) (some : 1 ≤ length l) where
+  -- refusal 9
+  pub other-head : (k : ℕ) → k ≡ firstOther l → (k ≡ 0 → ⊥) → join l ≡ Paper.refusal 9 k 0
+  other-head k e h = join-is l some ∙ rw (← e) (first-taken k _ _ h)
+
+  module _ (alike : 0 ≡ firstOther l) where
+    -- refusal 10
+    pub number-twice : (k : ℕ) → k ≡ again [] 1 l → (k ≡ 0 → ⊥) → join l ≡ Paper.refusal 10 k 0
+    number-twice k e h = join-is l some ∙ rw (← alike, ← e) (first-taken k _ _ h)
+
+    module _ (once : 0 ≡ again [] 1 l) where
+      -- refusal 11
+      pub number-missing : (k : ℕ) → k ≡ lowest l 1 (countSaid l) → (k ≡ 0 → ⊥) → join l ≡ Paper.refusal 11 k 0
+      number-missing k e h = join-is l some ∙ rw (← alike, ← once, ← e) (first-taken k _ _ h)
+
+      module _ (none : 0 ≡ lowest l 1 (countSaid l)) where
+        -- refusal 12
+        pub too-many : 256 < length (joined l 1 (countSaid l)) → join l ≡ Paper.refusal 12 0 0
+        too-many h = join-is l some ∙ rw (← alike, ← once, ← none, rows-in l some, lt-leb (length (joined l 1 (countSaid l))) 256 h)
+
+        -- else the plan
+        pub the-plan : length (joined l 1 (countSaid l)) ≤ 256 → join l ≡ Paper.plan (planIn l noPlan)
+        the-plan h = join-is l some ∙ rw (← alike, ← once, ← none, rows-in l some, le-leb (length (joined l 1 (countSaid l))) 256 h)
+
+-- ---- reading, step by step
+
+module _ (rows text b ss ns : List ℕ) where
+  -- too little room, or a call that is not well made
+  pub no-room : roomy (rowsLent (length rows)) (length text) ≡ false → answered rows text b ss ns ≡ Paper.refusal 1 0 0
+  unfolding readCall readAt
+  no-room e = rw e
+
+  pub no-call : (leb 1 (length ss) && (leb (length ss) 9 && inside b ss ns)) ≡ false → answered rows text b ss ns ≡ Paper.refusal 1 0 0
+  unfolding readCall readAt
+  no-call e = rw e (at (roomy (rowsLent (length rows)) (length text)))
+    where
+      at : (r : Bool) → if (r && false) (read (pagesAt b ss ns)) (Paper.refusal 1 0 0) ≡ Paper.refusal 1 0 0
+      at true = refl
+      at false = refl
+
+  module _ (room : roomy (rowsLent (length rows)) (length text) ≡ true) (call : (leb 1 (length ss) && (leb (length ss) 9 && inside b ss ns)) ≡ true) where
+    -- a call that is well made is read
+    pub is-read : answered rows text b ss ns ≡ read (pagesAt b ss ns)
+    unfolding readCall readAt
+    is-read = rw (room, call)
+
+    pub is-judged : answered rows text b ss ns ≡ decide (judgeAll 1 (pagesAt b ss ns))
+    unfolding readCall readAt read
+    is-judged =
+        let F = call-fits b ss ns call in
+        rw (room, call, pages-count b ss ns (F .lie), le-leb 1 (length ss) (F .some), le-leb (length ss) 9 (F .nine))
+
+-- the pages are judged, and the answer is a refusal
+pub refused-as : (ws : List (List ℕ)) (a : Answer) → a ≡ judgedAs (judgeAll 1 ws) → (numbersOf a .number ≡ 0 → ⊥)
+    → (n : ℕ) × (k : ℕ) × (i : ℕ) × (decide (judgeAll 1 ws) ≡ Paper.refusal n k i) × (numbersOf a ≡ numbers n k i)
+refused-as ws a e h = at (judgeAll 1 ws) (told-all ws 1) e
+  where
+    at : (J : Judgement) → Told J → a ≡ judgedAs J → (n : ℕ) × (k : ℕ) × (i : ℕ) × (decide J ≡ Paper.refusal n k i) × (numbersOf a ≡ numbers n k i)
+    at (stopped n k i) t e = (n, k, i, refl, ap numbersOf e ∙ t .tells n k i refl)
+    at (sheets l) t e = absurd (h (ap (λ (x : Answer). numbersOf x .number) e))
+
+-- the pages are judged, and none is refused: what they say is joined
+pub record Clean (ws : List (List ℕ)) : Type 0 where
+  pub fits : AllFit ws
+  pub joins : decide (judgeAll 1 ws) ≡ join (sheetsOf ws)
+
+pub clean : (ws : List (List ℕ)) (a : Answer) → a ≡ judgedAs (judgeAll 1 ws) → numbersOf a .number ≡ 0 → Clean ws
+clean ws a e z = at (judgeAll 1 ws) refl e
+  where
+    at : (J : Judgement) → judgeAll 1 ws ≡ J → a ≡ judgedAs J → Clean ws
+    at (stopped n k i) p e = absurd (refusal-not-zero n k i (ap (λ (x : Answer). numbersOf x .number) (sym e) ∙ z))
+    at (sheets l) p e =
+        let (f, q) = all-said ws 1 l p in
+        record { fits = f; joins = ap decide p ∙ ap join q }
+
+-- as many sheets as pages
+pub sheets-count : (ws : List (List ℕ)) → length (sheetsOf ws) ≡ length ws
+sheets-count [] = refl
+sheets-count (w ∷ ws) = ap suc (sheets-count ws)
+
+-- the count that the first page says is a page number
+pub count-small : (ws : List (List ℕ)) → AllFit ws → countSaid (sheetsOf ws) ≤ 9
+count-small [] f = omega arith
+count-small (w ∷ ws) f = f .0 .of-small
+
+-- what is known of a call that is well made and of which no page is refused
+pub record Joins (rows text b ss ns : List ℕ) : Type 0 where
+  pub some-starts : 1 ≤ length ss
+  pub nine : length ss ≤ 9
+  pub lie : inside b ss ns ≡ true
+  pub row-room : 12288 ≤ length rows
+  pub text-room : 12600 ≤ length text
+  pub fits : AllFit (pagesAt b ss ns)
+  pub some-sheets : 1 ≤ length (sheetsOf (pagesAt b ss ns))
+  pub small : countSaid (sheetsOf (pagesAt b ss ns)) ≤ 9
+  pub other-small : firstOther (sheetsOf (pagesAt b ss ns)) ≤ 11
+  pub again-small : again [] 1 (sheetsOf (pagesAt b ss ns)) ≤ 11
+  pub read-is : answered rows text b ss ns ≡ read (pagesAt b ss ns)
+  pub join-is : answered rows text b ss ns ≡ join (sheetsOf (pagesAt b ss ns))
+
+pub joins : (rows text b ss ns : List ℕ) → roomy (rowsLent (length rows)) (length text) ≡ true → (leb 1 (length ss) && (leb (length ss) 9 && inside b ss ns)) ≡ true
+    → (a : Answer) → a ≡ judgedAs (judgeAll 1 (pagesAt b ss ns)) → numbersOf a .number ≡ 0 → Joins rows text b ss ns
+joins rows text b ss ns room call a e z =
+    let ws : List (List ℕ) = pagesAt b ss ns in
+    let F = call-fits b ss ns call in
+    let R = room-fits (length rows) (length text) room in
+    let C = clean ws a e z in
+    let n : length (sheetsOf ws) ≡ length ss = sheets-count ws ∙ pages-count b ss ns (F .lie) in
+    record {
+      some-starts = F .some;
+      nine = F .nine;
+      lie = F .lie;
+      row-room = R .0;
+      text-room = R .1;
+      fits = C .fits;
+      some-sheets = omega (arith, n, F .some);
+      small = count-small ws (C .fits);
+      other-small = omega (arith, other-small (sheetsOf ws), n, F .nine);
+      again-small = omega (arith, again-within [] 1 (sheetsOf ws), n, F .nine);
+      read-is = is-read rows text b ss ns room call;
+      join-is = is-judged rows text b ss ns room call ∙ C .joins;
+    }
+
+-- the text of what was read fits the room
+pub text-fits : (ws : List (List ℕ)) (p : Said.Plan) → read ws ≡ Paper.plan p → length (textOf p) ≤ 12600
+text-fits ws p e = rooms ws p e .text-fits
+
+-- its rows are those counted
+pub rows-counted : (l : List Sheet) → 1 ≤ length l → length (joined l 1 (countSaid l)) ≤ 256 → length (planIn l noPlan .rows) ≤ 256
+rows-counted l some h = rw (rows-in l some) h
+
+-- the lowest missing number, by the masks
+pub low-is : (l : List Sheet) (have z mask low : ℕ) → z ≡ countSaid l → countSaid l ≤ 9 → have ≡ maskOf (present l) → mask ≡ maskOf (absent have z) → low ≡ firstOf (numbersIn mask)
+    → low ≡ lowest l 1 (countSaid l)
+low-is l have z mask low e h p m f = Page.missing l have z mask (length (numbersIn mask)) low (omega arith) p m refl f .lowest-is ∙ ap (lowest l 1) e
+
+-- ---- the promise
+
+module _ (A : Paper.Answer) (rows text : List ℕ) where
+  -- what a refusal must show
+  pub refuses : (n k i : ℕ) → A ≡ Paper.refusal n k i → (r : Reading) → numbersOf (r .answer) ≡ numbers n k i → r .plan ≡ emptyPlan → Promised A rows text r rows text
+  refuses n k i e r a p = rw e (record { answer-is = a; plan-is = p; rows-are = refl; text-is = refl })
+
+  -- what a plan must show
+  pub reads-as : (p : Said.Plan) → A ≡ Paper.plan p → (r : Reading) (rows′ text′ : List ℕ) → r .answer ≡ Plan → r .plan ≡ planNumbers p
+      → text′ ≡ laid text 0 (textOf p) → rows′ ≡ laid rows 0 (planRows p) → Promised A rows text r rows′ text′
+  reads-as p e r rows′ text′ a q t s = rw e (record { answer-is = a; plan-is = q; rows-are = s; text-is = t })

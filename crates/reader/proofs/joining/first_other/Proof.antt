@@ -1,0 +1,87 @@
+-- `sheet::joining::first_other` meets its contract: the pages that are left decide.
+-- Assumes nothing.
+use mathlib.Core.Path.{_≡_, sym, _∙_}
+use Prim.Native.Nat.{_-_, _≤_}
+use native.Mathlib.Omega.{arith}
+use lib.ListN.{length}
+use Rattle.paper.specs.Calls.{pagesAt}
+use Rattle.paper.proofs.Small.{no-not}
+use Rattle.reader.proofs.CallFacts.{pages-count}
+use Rattle.reader.proofs.JoiningLaws.{AlikeTo, alike-one, alike-more, other-here, none-other, not-false}
+use borrow.Author.Needs.{needs}
+use Rattle.reader.proofs.joining.first_other.Statement.{statement}
+use Rattle.reader.proofs.joining.first_other.Tie as tie
+
+abbrev Inv-loop : tie.InvT-loop
+Inv-loop b ss ns n i₀ i = (1 ≤ i) × (i ≤ length ss) × AlikeTo (pagesAt b ss ns) i
+
+abbrev μ-loop : tie.MeasureT-loop
+μ-loop b ss ns n i₀ i = length ss - i
+
+-- as many pages as starts
+paged : (S : tie.Start Inv-loop μ-loop) → length (pagesAt (S .args .buffer .now) (S .args .starts .now) (S .args .lens .now)) ≡ length (S .args .starts .now)
+paged S = pages-count (S .args .buffer .now) (S .args .starts .now) (S .args .lens .now) (S .pre .2 .lie)
+
+loop-holds : tie.Need-loop-holds Inv-loop μ-loop
+loop-holds c =
+    let S = c .before .before .before in
+    let a = S .args in
+    let h = paged S in
+    let g = S .pre .0 in (search needs, search needs, alike-one (pagesAt (a .buffer .now) (a .starts .now) (a .lens .now)) (omega arith))
+
+like-first-requires : tie.Need-like-first-requires Inv-loop μ-loop
+like-first-requires c κs =
+    let L = c .before in
+    let S = L .before .before .before .before in (c .loop-test .taken, S .pre .2)
+
+add-result : tie.Need-add-result Inv-loop μ-loop
+add-result c = search needs
+
+returns : tie.Need-returns Inv-loop μ-loop
+returns c =
+    let I = c .before .before in
+    let L = I .before in
+    let S = L .before .before .before .before in
+    let a = S .args in
+    let h = paged S in
+    let t = I .loop-test .taken in
+    sym (other-here (pagesAt (a .buffer .now) (a .starts .now) (a .lens .now)) (L .loop .i) (omega arith) (L .loop .inv .2) (sym (c .before .like-first .ensures) ∙ no-not _ (c .if1 .taken)))
+
+add-i : tie.Need-add-i Inv-loop μ-loop
+add-i c = search needs
+
+loop-less : tie.Need-loop-less Inv-loop μ-loop
+loop-less c = search needs
+
+loop-again : tie.Need-loop-again Inv-loop μ-loop
+loop-again c =
+    let I = c .before .before in
+    let L = I .before in
+    let S = L .before .before .before .before in
+    let a = S .args in
+    let h = paged S in
+    let t = I .loop-test .taken in
+    (search needs, search needs, alike-more (pagesAt (a .buffer .now) (a .starts .now) (a .lens .now)) (L .loop .i) (omega arith) (L .loop .inv .2) (sym (c .before .like-first .ensures) ∙ not-false _ (c .if1 .left)))
+
+returns-2 : tie.Need-returns-2 Inv-loop μ-loop
+returns-2 c =
+    let L = c .before in
+    let S = L .before .before .before .before in
+    let a = S .args in
+    let h = paged S in
+    let t = c .loop-test .left in sym (none-other (pagesAt (a .buffer .now) (a .starts .now) (a .lens .now)) (L .loop .i) (omega arith) (L .loop .inv .2))
+
+pub first-other-spec : {M : Type 1} → statement M
+first-other-spec =
+    tie.close
+    (tie.spec
+    Inv-loop
+    μ-loop
+    loop-holds
+    like-first-requires
+    add-result
+    returns
+    add-i
+    loop-less
+    loop-again
+    returns-2)

@@ -1,0 +1,49 @@
+-- `sheet::joining::number_at` meets its contract: the page that is handed in fits.
+-- Assumes nothing.
+use mathlib.Core.Path.{ap, _∙_}
+use mathlib.Core.List.{List}
+use Prim.Native.Nat.{ℕ}
+use native.Mathlib.Omega.{arith}
+use Rattle.markup.specs.Walk.{tagsAt}
+use Rattle.sheet.specs.Content.{contentOf}
+use Rattle.reader.proofs.JoiningLaws.{page-fits}
+use borrow.Author.Needs.{needs}
+use Rattle.reader.proofs.joining.number_at.Statement.{statement}
+use Rattle.reader.proofs.joining.number_at.Tie as tie
+
+page-at-requires : tie.Need-page-at-requires
+page-at-requires c κs =
+    let S = c .before .before .before in (S .pre .0, S .pre .1 .lie)
+
+slice-aggregate-number-of : tie.Need-slice-aggregate-number-of
+slice-aggregate-number-of c = search needs
+
+number-of-requires : tie.Need-number-of-requires
+number-of-requires c κs =
+    let P = c .before in
+    let S = P .before .before .before .before in
+    let a = S .args in
+    let F = page-fits (a .buffer .now) (a .starts .now) (a .lens .now) (a .i) _ (S .pre .1) (S .pre .0) (P .page-at .ensures) in (F .short, F .short, F .fit)
+
+cast-result : tie.Need-cast-result
+cast-result c =
+    let N = c .before in
+    let P = N .before .before in
+    let S = P .before .before .before .before in
+    let a = S .args in
+    let F = page-fits (a .buffer .now) (a .starts .now) (a .lens .now) (a .i) _ (S .pre .1) (S .pre .0) (P .page-at .ensures) in omega (arith, N .number-of .ensures, F .no-small)
+
+returns : tie.Need-returns
+returns c =
+    let N = c .before in
+    let P = N .before .before in N .number-of .ensures ∙ ap (λ (w : List ℕ). contentOf (tagsAt w 0) .no) (P .page-at .ensures)
+
+pub number-at-spec : {M : Type 1} → statement M
+number-at-spec =
+    tie.close
+    (tie.spec
+    page-at-requires
+    slice-aggregate-number-of
+    number-of-requires
+    cast-result
+    returns)

@@ -1,0 +1,526 @@
+-- ContentLaws: values laid one run behind the other, what the spans of a tag tell, and the tags of a page one at a time.
+-- Assumes nothing.
+use mathlib.Core.Path.{_≡_, refl, sym, ap, _∙_, subst}
+use mathlib.Core.Bool.{Bool, true, false, not, _&&_, _||_}
+use mathlib.Core.Option.{Option, none, some}
+use mathlib.Core.List.{List, [], _∷_, _++_, append-assoc, append-nil}
+use Prim.Native.Nat.{ℕ, zero, suc, _+_, _*_, _-_, _≤_, _<_}
+use native.Mathlib.Nat.{add-zero}
+use native.Mathlib.Numerals.{add-one}
+use native.Mathlib.Omega.{arith}
+use lib.Dec.{eqb, leb}
+use lib.ListN.{length, take, drop, getD, set, length-append, length-take, take-append-drop}
+use lib.Seq.{slice, slice-cons, slice-empty, take-all, take-at, drop-length, drop-drop, getD-drop, take-suc-set}
+use borrow.Author.Tests.{eq-eqb, ne-eqb, eqb-true, leb-true}
+use Rattle.paper.specs.Lists.{if, concat, same, isEmpty}
+use Rattle.paper.specs.Grammar.{Attr, Tag, end}
+use Rattle.paper.specs.Values.{value}
+use Rattle.paper.specs.Fields.{Kind, M, R, S, W, X, code, is, Field, fieldsOf}
+use Rattle.paper.specs.Rules.{settle, isZero}
+use Rattle.paper.specs.Plan.{Slots, Row}
+use Rattle.paper.specs.Judging.{found, slotsOf, allEmpty, item, rowOf}
+use Rattle.paper.proofs.Small.{no, below-at}
+use Rattle.paper.specs.Layout.{Span, spanAt, spansFrom}
+use Rattle.markup.specs.Laid.{laid}
+use Rattle.markup.proofs.LaidLaws.{Laying, start, next-piece, next-byte, all-laid}
+use Rattle.markup.specs.Walk.{inside, insideAt, tagsAt, tagOf, opened, ended, Outer}
+use Rattle.markup.specs.declared.walk.Mark.{Mark}
+use Rattle.markup.specs.declared.walk.Mark.the-variants.{Start, End, Nothing}
+use Rattle.fields.specs.Places.{noField, fieldAt, firstOf, countOf, kindAt, ruleAt, ruleNumber}
+use Rattle.fields.proofs.TableLaws.{field-at, code-back, kind-back}
+use Rattle.fields.proofs.RuleLaws.{rule-back}
+use Rattle.plan.specs.Numbers.{flat, kindNumber}
+use Rattle.plan.proofs.Stores.{laid-long}
+use Rattle.plan.specs.declared.Span as Code
+use Rattle.sheet.specs.declared.found.Raw.{Raw}
+use Rattle.sheet.specs.Found.{rawOf, rawsIn, rawsAt, Lie, Tells}
+use Rattle.sheet.specs.Content.{kindNamed, attrsOfFirst, wsFrom, rowsFrom}
+use Rattle.sheet.specs.Laying.{settled, toldIn, told, Sound, Fit, Room, startOf, Lays, pairs, givesRow, rowFrom}
+
+-- ---- lists of values
+
+pub concat-append : (us vs : Slots) → concat (us ++ vs) ≡ concat us ++ concat vs
+concat-append [] vs = refl
+concat-append (u ∷ us) vs = rw (concat-append us vs) (sym (append-assoc u (concat us) (concat vs)))
+
+spans-append : (n : ℕ) (us vs : Slots) → flat (spansFrom n (us ++ vs)) ≡ flat (spansFrom n us) ++ flat (spansFrom (n + length (concat us)) vs)
+spans-append n [] vs = rw (add-zero n)
+spans-append n (u ∷ us) vs =
+    let e : n + length u + length (concat us) ≡ n + length (u ++ concat us) = omega (arith, length-append u (concat us)) in
+    ap (λ (l : List ℕ). spanAt n u .at ∷ spanAt n u .len ∷ l)
+    (spans-append (n + length u) us vs ∙ ap (λ (k : ℕ). flat (spansFrom (n + length u) us) ++ flat (spansFrom k vs)) e)
+
+pub flat-long : (n : ℕ) (vs : Slots) → length (flat (spansFrom n vs)) ≡ 2 * length vs
+flat-long n [] = refl
+flat-long n (v ∷ vs) = let e = flat-long (n + length v) vs in omega arith
+
+-- the span of a value, by its length
+span-is : (n : ℕ) (v : List ℕ) → spanAt n v ≡ record { at = startOf n (length v); len = length v }
+span-is n [] = refl
+span-is n (c ∷ v) = let e : eqb (suc (length v)) 0 ≡ false = ne-eqb (suc (length v)) 0 (λ z. omega arith) in rw e
+
+-- ---- runs of values laid one behind the other
+
+-- values are being laid: what is to be laid is what is laid and what is left to lay, of their bytes and of their spans
+pub record Going (all rest : Slots) (text₀ text : List ℕ) (n m : ℕ) (numbers₀ numbers : List ℕ) (at b : ℕ) : Type 0 where
+  pub text-so : Laying text₀ text n m (concat all) (concat rest)
+  pub numbers-so : Laying numbers₀ numbers at b (flat (spansFrom n all)) (flat (spansFrom m rest))
+
+-- nothing is laid yet
+pub begin : (all : Slots) (text : List ℕ) (n : ℕ) (numbers : List ℕ) (at : ℕ) → n ≤ length text → at ≤ length numbers → Going all all text text n n numbers numbers at at
+begin all text n numbers at h g = record { text-so = start text n (concat all) h; numbers-so = start numbers at (flat (spansFrom n all)) g }
+
+-- what is reached and what is left make up the whole
+pub summed : {out₀ out : List ℕ} {at n : ℕ} {all rest : List ℕ} → Laying out₀ out at n all rest → at ≤ length out₀ → n + length rest ≡ at + length all
+summed {out₀} {out} {at} {n} {all} {rest} L h =
+    let l = L .long in
+    let i = L .inside in
+    let e : length (take at out₀ ++ all) ≡ length (take n out ++ rest) = ap length (L .right) in
+    omega (arith, simp (length-append, length-take) at e)
+
+module _ {all us rest : Slots} {text₀ text text′ : List ℕ} {n m e : ℕ} {numbers₀ numbers numbers′ : List ℕ} {at b : ℕ} where
+  -- the next run of values is laid
+  pub turn : Going all (us ++ rest) text₀ text n m numbers₀ numbers at b → Lays us text text′ m e numbers numbers′ b
+      → m + length (concat us) ≤ length text₀ → b + 2 * length us ≤ length numbers₀ → Going all rest text₀ text′ n e numbers₀ numbers′ at (b + 2 * length us)
+  turn G L h g =
+      let long = flat-long m us in
+      record {
+        text-so = rw (L .text-is, L .end-is) (next-piece (G .text-so) (concat us) (concat rest) (concat-append us rest) h);
+        numbers-so = rw (L .numbers-are, L .end-is, ← long) (next-piece (G .numbers-so) (flat (spansFrom m us)) (flat (spansFrom (m + length (concat us)) rest)) (spans-append m us rest) (omega arith));
+      }
+
+-- all values are laid
+pub finish : {all : Slots} {text₀ text : List ℕ} {n m : ℕ} {numbers₀ numbers : List ℕ} {at b : ℕ} → Going all [] text₀ text n m numbers₀ numbers at b → n ≤ length text₀ → at ≤ length numbers₀
+    → Lays all text₀ text n m numbers₀ numbers at
+finish G h g = record { end-is = all-laid h (G .text-so) .0; text-is = all-laid h (G .text-so) .1; numbers-are = all-laid g (G .numbers-so) .1 }
+
+-- the room for what is left
+pub room-left : {all rest : Slots} {text₀ text : List ℕ} {n m : ℕ} {numbers₀ numbers : List ℕ} {at b : ℕ} → Going all rest text₀ text n m numbers₀ numbers at b → Room all text₀ n → Room rest text m
+room-left {all} {rest} {text₀} {text} {n} {m} G Q =
+    let l = G .text-so .long in
+    let f = Q .fits in
+    let s = Q .short in
+    let e = summed (G .text-so) (omega arith) in
+    record { fits = omega arith; short = omega arith }
+
+-- the room for the first run of two
+pub room-first : (us vs : Slots) (text : List ℕ) (n : ℕ) → Room (us ++ vs) text n → Room us text n
+room-first us vs text n Q =
+    let f = Q .fits in
+    let s = Q .short in
+    let e : length (concat (us ++ vs)) ≡ length (concat us) + length (concat vs) = ap length (concat-append us vs) ∙ length-append (concat us) (concat vs) in
+    record { fits = omega arith; short = omega arith }
+
+-- what is left, in other words; and the place reached
+pub regoing : {all rest rest′ : Slots} {text₀ text : List ℕ} {n m : ℕ} {numbers₀ numbers : List ℕ} {at b : ℕ} → rest ≡ rest′ → Going all rest text₀ text n m numbers₀ numbers at b
+    → Going all rest′ text₀ text n m numbers₀ numbers at b
+regoing {all} {rest} {rest′} {text₀} {text} {n} {m} {numbers₀} {numbers} {at} {b} e G = subst (λ (l : Slots). Going all l text₀ text n m numbers₀ numbers at b) e G
+
+pub replaced : {all rest : Slots} {text₀ text : List ℕ} {n m : ℕ} {numbers₀ numbers : List ℕ} {at b d : ℕ} → b ≡ d → Going all rest text₀ text n m numbers₀ numbers at b → Going all rest text₀ text n m numbers₀ numbers at d
+replaced {all} {rest} {text₀} {text} {n} {m} {numbers₀} {numbers} {at} e G = subst (λ (k : ℕ). Going all rest text₀ text n m numbers₀ numbers at k) e G
+
+-- the same values, or the same place, in other words
+pub relay : {us vs : Slots} {text text₁ : List ℕ} {n m : ℕ} {numbers numbers₁ : List ℕ} {at : ℕ} → us ≡ vs → Lays us text text₁ n m numbers numbers₁ at → Lays vs text text₁ n m numbers numbers₁ at
+relay {us} {vs} {text} {text₁} {n} {m} {numbers} {numbers₁} {at} e L = subst (λ (l : Slots). Lays l text text₁ n m numbers numbers₁ at) e L
+
+pub reroom : {us vs : Slots} {text : List ℕ} {n : ℕ} → us ≡ vs → Room us text n → Room vs text n
+reroom {us} {vs} {text} {n} e Q = subst (λ (l : Slots). Room l text n) e Q
+
+pub placed-at : {us : Slots} {text text₁ : List ℕ} {n m : ℕ} {numbers numbers₁ : List ℕ} {at b : ℕ} → at ≡ b → Lays us text text₁ n m numbers numbers₁ at → Lays us text text₁ n m numbers numbers₁ b
+placed-at {us} {text} {text₁} {n} {m} {numbers} {numbers₁} e L = subst (λ (k : ℕ). Lays us text text₁ n m numbers numbers₁ k) e L
+
+-- the numbers keep their length
+pub numbers-kept : {us : Slots} {text text₁ : List ℕ} {n m : ℕ} {numbers numbers₁ : List ℕ} {at : ℕ} → Lays us text text₁ n m numbers numbers₁ at → at + 2 * length us ≤ length numbers
+    → length numbers₁ ≡ length numbers
+numbers-kept {us} {text} {text₁} {n} {m} {numbers} {numbers₁} {at} L h =
+    let e = flat-long n us in
+    ap length (L .numbers-are) ∙ laid-long numbers (flat (spansFrom n us)) at (omega arith)
+
+-- the room for the second run of two, once the first is laid
+pub room-behind : (us vs : Slots) {text text₁ : List ℕ} {n m : ℕ} {numbers numbers₁ : List ℕ} {at : ℕ} → Room (us ++ vs) text n → Lays us text text₁ n m numbers numbers₁ at → Room vs text₁ m
+room-behind us vs {text} {text₁} {n} {m} Q L =
+    let f = Q .fits in
+    let s = Q .short in
+    let g = L .end-is in
+    let e : length (concat (us ++ vs)) ≡ length (concat us) + length (concat vs) = ap length (concat-append us vs) ∙ length-append (concat us) (concat vs) in
+    let l : length text₁ ≡ length text = ap length (L .text-is) ∙ laid-long text (concat us) n (omega arith) in
+    record { fits = omega arith; short = omega arith }
+
+-- two runs laid one behind the other are one run
+pub behind : {us vs : Slots} {text text₁ text₂ : List ℕ} {n m e : ℕ} {numbers numbers₁ numbers₂ : List ℕ} {at : ℕ} → Lays us text text₁ n m numbers numbers₁ at
+    → Lays vs text₁ text₂ m e numbers₁ numbers₂ (at + 2 * length us) → Room (us ++ vs) text n → at + 2 * length (us ++ vs) ≤ length numbers → Lays (us ++ vs) text text₂ n e numbers numbers₂ at
+behind {us} {vs} {text} {text₁} {text₂} {n} {m} {e} {numbers} {numbers₁} {numbers₂} {at} L K Q h =
+    let f = Q .fits in
+    let q = L .end-is in
+    let s : length (concat (us ++ vs)) ≡ length (concat us) + length (concat vs) = ap length (concat-append us vs) ∙ length-append (concat us) (concat vs) in
+    let l = length-append us vs in
+    let G : Going (us ++ vs) (us ++ vs) text text n n numbers numbers at at = begin (us ++ vs) text n numbers at (omega arith) (omega arith) in
+    let G₁ : Going (us ++ vs) vs text text₁ n m numbers numbers₁ at (at + 2 * length us) = turn {us = us} G L (omega arith) (omega arith) in
+    let G₂ : Going (us ++ vs) (vs ++ []) text text₁ n m numbers numbers₁ at (at + 2 * length us) =
+    subst (λ (l : Slots). Going (us ++ vs) l text text₁ n m numbers numbers₁ at (at + 2 * length us)) (sym (append-nil vs)) G₁ in
+    finish (turn {us = vs} {rest = []} G₂ K (omega arith) (omega arith)) (omega arith) (omega arith)
+
+-- the text reaches as far as the next run
+pub going-room : (us rest : Slots) {all : Slots} {text₀ text : List ℕ} {n m : ℕ} {numbers₀ numbers : List ℕ} {at b : ℕ} → Going all (us ++ rest) text₀ text n m numbers₀ numbers at b → Room all text₀ n
+    → m + length (concat us) ≤ length text₀
+going-room us rest {all} {text₀} {text} {n} {m} G Q =
+    let f = room-first us rest text m (room-left G Q) .fits in
+    let l = G .text-so .long in
+    omega arith
+
+-- the room for one value
+pub room-one : (v text : List ℕ) (n : ℕ) → Room (v ∷ []) text n → (n + length v ≤ length text) × (n + length v ≤ 12600)
+room-one v text n Q = (rw (append-nil v) at (Q .fits), rw (append-nil v) at (Q .short))
+
+-- ---- one value
+
+pub two-stored : (N : List ℕ) (b s l : ℕ) → b + 2 ≤ length N → set (set N b s) (b + 1) l ≡ laid N b (s ∷ l ∷ [])
+two-stored N b s l h =
+    let L0 = start N b (s ∷ l ∷ []) (omega arith) in
+    let L1 = next-byte L0 (omega arith) in
+    let L2 = next-byte L1 (omega arith) in
+    all-laid (omega arith) L2 .1
+
+-- a value and its span are laid
+pub one-laid : (v text text′ : List ℕ) (m e len s : ℕ) (numbers : List ℕ) (b : ℕ) → e ≡ m + length v → text′ ≡ laid text m v → len ≡ length v → s ≡ startOf m len → b + 2 ≤ length numbers
+    → Lays (v ∷ []) text text′ m e numbers (set (set numbers b s) (b + 1) len) b
+one-laid v text text′ m e len s numbers b he ht hl hs h =
+    record {
+      end-is = rw (append-nil v) he;
+      text-is = rw (append-nil v) ht;
+      numbers-are = two-stored numbers b s len h ∙ rw (hs, hl, span-is m v);
+    }
+
+-- ---- the values from one field up to another
+
+module _ {text₀ text : List ℕ} {n m : ℕ} {numbers₀ numbers : List ℕ} {at b : ℕ} (vs : Slots) (from to j : ℕ)
+    (G : Going (slice from to vs) (slice j to vs) text₀ text n m numbers₀ numbers at b) (Q : Room (slice from to vs) text₀ n) (h : j < to) (l : to ≤ length vs) where
+  left : Going (slice from to vs) (getD vs j [] ∷ slice (suc j) to vs) text₀ text n m numbers₀ numbers at b
+  left = subst (λ (rest : Slots). Going (slice from to vs) rest text₀ text n m numbers₀ numbers at b) (slice-cons j to vs [] h l) G
+
+  -- there is room for the next value
+  pub value-room : (m + length (getD vs j []) ≤ length text) × (m + length (getD vs j []) ≤ 12600)
+  value-room = room-one (getD vs j []) text m (room-first (getD vs j [] ∷ []) (slice (suc j) to vs) text m (room-left left Q))
+
+  -- the next value is laid
+  pub value-turn : {text′ : List ℕ} {e : ℕ} {numbers′ : List ℕ} → Lays (getD vs j [] ∷ []) text text′ m e numbers numbers′ b → b + 2 ≤ length numbers₀
+      → Going (slice from to vs) (slice (j + 1) to vs) text₀ text′ n e numbers₀ numbers′ at (b + 2)
+  value-turn L k =
+      let f : m + length (getD vs j []) ≤ length text = value-room .0 in
+      let g = G .text-so .long in
+      let r : m + length (getD vs j [] ++ []) ≤ length text₀ = rw (append-nil (getD vs j [])) (omega arith) in
+      rw (add-one j) (turn {us = getD vs j [] ∷ []} left L r k)
+
+-- no value is left
+pub none-left : {all : Slots} {text₀ text : List ℕ} {n m : ℕ} {numbers₀ numbers : List ℕ} {at b : ℕ} (vs : Slots) (to j : ℕ) → Going all (slice j to vs) text₀ text n m numbers₀ numbers at b → j ≡ to
+    → Going all [] text₀ text n m numbers₀ numbers at b
+none-left {all} {text₀} {text} {n} {m} {numbers₀} {numbers} {at} {b} vs to j G e =
+    subst (λ (rest : Slots). Going all rest text₀ text n m numbers₀ numbers at b) (ap (λ (i : ℕ). slice i to vs) e ∙ slice-empty to vs) G
+
+-- ---- what the spans of a tag tell
+
+abbrev pub noRaw : Raw
+noRaw = record { at = 0; end = 0 }
+
+found-raw : (l : List Attr) (n : List ℕ) → found l n ≡ value (rawOf l n)
+found-raw [] n = refl
+found-raw (a ∷ l) n = go (same (a .name) n) (found-raw l n)
+  where
+    go : (b : Bool) → found l n ≡ value (rawOf l n) → if b (value (a .raw)) (found l n) ≡ value (if b (a .raw) (rawOf l n))
+    go true h = refl
+    go false h = h
+
+told-in : (w : List ℕ) (fs : List Field) (rs : List Raw) (l : List Attr) → rawsAt w (length fs) rs ≡ rawsIn fs l → toldIn w fs rs ≡ slotsOf fs l
+told-in w [] rs l e = refl
+told-in w (f ∷ fs) [] l e =
+    let x : [] ≡ rawOf l (f .letters) = cc in
+    let y : rawsAt w (length fs) [] ≡ rawsIn fs l = cc in
+    let z : found l (f .letters) ≡ [] = found-raw l (f .letters) ∙ ap value (sym x) in
+    rw (z, told-in w fs [] l y)
+told-in w (f ∷ fs) (r ∷ rs) l e =
+    let x : slice (r .at) (r .end) w ≡ rawOf l (f .letters) = cc in
+    let y : rawsAt w (length fs) rs ≡ rawsIn fs l = cc in
+    let z : found l (f .letters) ≡ value (slice (r .at) (r .end) w) = found-raw l (f .letters) ∙ ap value (sym x) in
+    rw (z, told-in w fs rs l y)
+
+-- the spans tell an element's slots
+pub told-slots : (w : List ℕ) (k : Kind) (rs : List Raw) (l : List Attr) → Tells w k rs l → told w k rs ≡ slotsOf (fieldsOf k) l
+unfolding told
+told-slots w k rs l T = told-in w (fieldsOf k) rs l (T .raws)
+
+told-in-long : (w : List ℕ) (fs : List Field) (rs : List Raw) → length (toldIn w fs rs) ≡ length fs
+told-in-long w [] rs = refl
+told-in-long w (f ∷ fs) [] = ap suc (told-in-long w fs [])
+told-in-long w (f ∷ fs) (r ∷ rs) = ap suc (told-in-long w fs rs)
+
+pub told-long : (w : List ℕ) (k : Kind) (rs : List Raw) → length (told w k rs) ≡ countOf k
+unfolding told countOf
+told-long w k rs = told-in-long w (fieldsOf k) rs
+
+told-in-at : (w : List ℕ) (fs : List Field) (rs : List Raw) (j : ℕ) → j < length fs
+    → getD (toldIn w fs rs) j [] ≡ settle (getD fs j noField) (value (slice (getD rs j noRaw .at) (getD rs j noRaw .end) w))
+told-in-at w [] rs j h = absurd (omega arith)
+told-in-at w (f ∷ fs) [] zero h = refl
+told-in-at w (f ∷ fs) (r ∷ rs) zero h = refl
+told-in-at w (f ∷ fs) [] (suc j) h = told-in-at w fs [] j (omega arith)
+told-in-at w (f ∷ fs) (r ∷ rs) (suc j) h = told-in-at w fs rs j (omega arith)
+
+-- one of the slots, by its place
+pub told-at : (w : List ℕ) (k : Kind) (rs : List Raw) (j : ℕ) → j < countOf k
+    → getD (told w k rs) j [] ≡ settled (firstOf k + j) (slice (getD rs j noRaw .at) (getD rs j noRaw .end) w)
+unfolding told settled countOf
+told-at w k rs j h = told-in-at w (fieldsOf k) rs j h ∙ rw (field-at k j h)
+
+-- the same, by the place of the element's first field
+pub told-here : (w : List ℕ) (k : Kind) (rs : List Raw) (first j : ℕ) → first ≡ firstOf k → j < countOf k
+    → settled (first + j) (slice (getD rs j noRaw .at) (getD rs j noRaw .end) w) ≡ getD (told w k rs) j []
+told-here w k rs first j e h = rw e (sym (told-at w k rs j h))
+
+-- no element has more fields than a tag has spans
+pub count-small : (k : ℕ) → k < 10 → countOf (kindAt k) ≤ 16
+unfolding countOf kindAt fieldsOf
+count-small k h = leb-true (countOf (kindAt k)) 16 (below-at 10 (λ (n : ℕ). leb (countOf (kindAt n)) 16) refl k h)
+
+pub lie-at : (w : List ℕ) (rs : List Raw) (j : ℕ) → Lie w rs → j < length rs → (getD rs j noRaw .at ≤ getD rs j noRaw .end) × (getD rs j noRaw .end ≤ length w)
+lie-at w [] j L h = absurd (omega arith)
+lie-at w (r ∷ rs) zero L h = (L .0, L .1)
+lie-at w (r ∷ rs) (suc j) L h = lie-at w rs j (L .2) (omega arith)
+
+-- ---- a value in the scratch
+
+-- what was decoded to the beginning of a room stands there
+pub front : (xs ys v : List ℕ) (k : ℕ) → k ≡ 0 + length v → ys ≡ laid xs 0 v → take k ys ≡ v
+front xs ys v k e f = let g : length v ≡ k = omega arith in rw f (take-at v (drop (0 + length v) xs) k g)
+
+pub front-shown : (xs ys v : List ℕ) (k : ℕ) → k ≡ 0 + length v → ys ≡ laid xs 0 v → take (k - 0) (drop 0 ys) ≡ v
+front-shown xs ys v k e f = let z : k - 0 ≡ k = omega arith in rw z (front xs ys v k e f)
+
+-- nothing laid changes nothing
+pub laid-none : (xs : List ℕ) (n : ℕ) → laid xs n [] ≡ xs
+laid-none xs n = rw (add-zero n) (take-append-drop n xs)
+
+-- a value of a field that reads as absent
+pub zero-value : (id rule : ℕ) (raw s : List ℕ) → rule ≡ ruleNumber (fieldAt id .rule) → s ≡ value raw → isZero (ruleAt rule) s ≡ true → settled id raw ≡ []
+unfolding settled
+zero-value id rule raw s r e z =
+    let q : isZero (fieldAt id .rule) (value raw) ≡ true = rw (e, r, rule-back (fieldAt id .rule)) at z in rw q
+
+-- any other value counts
+pub whole-value : (id rule : ℕ) (raw s : List ℕ) → rule ≡ ruleNumber (fieldAt id .rule) → s ≡ value raw → isZero (ruleAt rule) s ≡ false → settled id raw ≡ value raw
+unfolding settled
+whole-value id rule raw s r e z =
+    let q : isZero (fieldAt id .rule) (value raw) ≡ false = rw (e, r, rule-back (fieldAt id .rule)) at z in rw q
+
+-- ---- the tags of a page, one at a time
+
+-- an end tag stands next, its `<` at p
+pub record Ends (w : List ℕ) (at p : ℕ) : Type 0 where
+  pub tags : tagsAt w at ≡ end ∷ tagsAt w (p + 1)
+  pub low : at ≤ p
+  pub inner : p < length w
+
+-- a start tag stands next, its `<` at p, its name behind that up to e
+pub record Starts (w : List ℕ) (at p e : ℕ) : Type 0 where
+  pub tags : tagsAt w at ≡ opened p (slice (p + 1) e w) (insideAt w e) (tagsAt w (p + 1))
+  pub low : at ≤ p
+  pub high : p < e
+  pub inner : e ≤ length w
+
+pub ends : {w : List ℕ} {at p : ℕ} {r : Mark} → r ≡ End p → (tagsAt w at ≡ tagOf w r) × Outer at (length w) r → Ends w at p
+ends {w} {at} {p} q h =
+    let o : Outer at (length w) (End p) = subst (λ (m : Mark). Outer at (length w) m) q (h .1) in
+    record { tags = h .0 ∙ ap (tagOf w) q; low = o .0; inner = o .1 }
+
+pub starts : {w : List ℕ} {at p e : ℕ} {r : Mark} → r ≡ Start p e → (tagsAt w at ≡ tagOf w r) × Outer at (length w) r → Starts w at p e
+starts {w} {at} {p} {e} q h =
+    let o : Outer at (length w) (Start p e) = subst (λ (m : Mark). Outer at (length w) m) q (h .1) in
+    record { tags = h .0 ∙ ap (tagOf w) q; low = o .0; high = o .1; inner = o .2 }
+
+-- no tag stands next
+pub nothing : (w : List ℕ) (at : ℕ) {r : Mark} → r ≡ Nothing → tagsAt w at ≡ tagOf w r → tagsAt w at ≡ []
+nothing w at q h = h ∙ ap (tagOf w) q
+
+-- where the page ends no attribute begins
+pub no-attrs : (w : List ℕ) → insideAt w (length w) .attrs ≡ []
+unfolding inside
+no-attrs w = rw (drop-length w)
+
+-- ---- the first element of a kind
+
+module _ (k : Kind) where
+  first-shut : (b : Bool) (ts : List Tag) → attrsOfFirst k (ended b ts) ≡ attrsOfFirst k ts
+  unfolding attrsOfFirst
+  first-shut true ts = refl
+  first-shut false ts = refl
+
+  pub first-none : (w : List ℕ) (at : ℕ) → tagsAt w at ≡ [] → attrsOfFirst k (tagsAt w at) ≡ none
+  unfolding attrsOfFirst
+  first-none w at e = rw e
+
+  pub first-end : {w : List ℕ} {at p : ℕ} → Ends w at p → attrsOfFirst k (tagsAt w at) ≡ attrsOfFirst k (tagsAt w (p + 1))
+  unfolding attrsOfFirst
+  first-end E = rw (E .tags)
+
+  pub first-here : {w : List ℕ} {at p e : ℕ} → Starts w at p e → code (kindNamed (slice (p + 1) e w)) ≡ code k → attrsOfFirst k (tagsAt w at) ≡ some (insideAt w e .attrs)
+  unfolding attrsOfFirst
+  first-here {w} {at} {p} {e} E h = rw (E .tags, eq-eqb (code (kindNamed (slice (p + 1) e w))) (code k) h)
+
+  pub first-past : {w : List ℕ} {at p e : ℕ} → Starts w at p e → (code (kindNamed (slice (p + 1) e w)) ≡ code k → ⊥) → attrsOfFirst k (tagsAt w at) ≡ attrsOfFirst k (tagsAt w (p + 1))
+  unfolding attrsOfFirst
+  first-past {w} {at} {p} {e} E h = rw (E .tags, ne-eqb (code (kindNamed (slice (p + 1) e w))) (code k) h) (first-shut (insideAt w e .shut) (tagsAt w (p + 1)))
+
+-- ---- what is known of the tags
+
+fit-shut : (b : Bool) (ts : List Tag) → Fit (ended b ts) → Fit ts
+fit-shut true ts f = f
+fit-shut false ts f = f
+
+ws-shut : (b : Bool) (ts : List Tag) → wsFrom (ended b ts) ≡ wsFrom ts
+unfolding wsFrom
+ws-shut true ts = refl
+ws-shut false ts = refl
+
+rows-shut : (b : Bool) (ts : List Tag) → rowsFrom (ended b ts) ≡ rowsFrom ts
+unfolding rowsFrom
+rows-shut true ts = refl
+rows-shut false ts = refl
+
+-- what is known of a start tag and of the tags behind it
+pub record Next (k : Kind) (l : List Attr) (ts : List Tag) : Type 0 where
+  pub sound : Sound k l
+  pub few : is k M ≡ true → length (wsFrom ts) ≤ 3
+  pub fit : Fit ts
+
+module _ {w : List ℕ} {at p : ℕ} (E : Ends w at p) where
+  pub fit-end : Fit (tagsAt w at) → Fit (tagsAt w (p + 1))
+  fit-end f = subst (λ (l : List Tag). Fit l) (E .tags) f
+
+  pub ws-end : wsFrom (tagsAt w at) ≡ wsFrom (tagsAt w (p + 1))
+  unfolding wsFrom
+  ws-end = rw (E .tags)
+
+  pub rows-end : rowsFrom (tagsAt w at) ≡ rowsFrom (tagsAt w (p + 1))
+  unfolding rowsFrom
+  rows-end = rw (E .tags)
+
+pub ws-none : (w : List ℕ) (at : ℕ) → tagsAt w at ≡ [] → wsFrom (tagsAt w at) ≡ []
+unfolding wsFrom
+ws-none w at e = rw e
+
+pub rows-none : (w : List ℕ) (at : ℕ) → tagsAt w at ≡ [] → rowsFrom (tagsAt w at) ≡ []
+unfolding rowsFrom
+rows-none w at e = rw e
+
+module _ {w : List ℕ} {at p e : ℕ} (B : Starts w at p e) where
+  -- the kind of the tag, its attributes, and the tags behind it
+  abbrev pub kindHere : Kind
+  kindHere = kindNamed (slice (p + 1) e w)
+
+  abbrev pub attrsHere : List Attr
+  attrsHere = insideAt w e .attrs
+
+  pub fit-start : Fit (tagsAt w at) → Next (kindNamed (slice (p + 1) e w)) (insideAt w e .attrs) (tagsAt w (p + 1))
+  fit-start f =
+      let g : Fit (opened p (slice (p + 1) e w) (insideAt w e) (tagsAt w (p + 1))) = subst (λ (l : List Tag). Fit l) (B .tags) f in
+      record { sound = g .0; few = λ q. rw (ws-shut (insideAt w e .shut) (tagsAt w (p + 1))) at (g .1 q); fit = fit-shut (insideAt w e .shut) (tagsAt w (p + 1)) (g .2) }
+
+  pub ws-stop : (code (kindNamed (slice (p + 1) e w)) ≡ 7 → ⊥) → wsFrom (tagsAt w at) ≡ []
+  unfolding wsFrom
+  ws-stop h = rw (B .tags, ne-eqb (code (kindNamed (slice (p + 1) e w))) 7 h)
+
+  pub ws-more : code (kindNamed (slice (p + 1) e w)) ≡ 7 → wsFrom (tagsAt w at) ≡ slotsOf (fieldsOf W) (insideAt w e .attrs) ∷ wsFrom (tagsAt w (p + 1))
+  unfolding wsFrom
+  ws-more h = rw (B .tags, eq-eqb (code (kindNamed (slice (p + 1) e w))) 7 h, ws-shut (insideAt w e .shut) (tagsAt w (p + 1)))
+
+  pub rows-start : rowsFrom (tagsAt w at)
+      ≡ rowOf (item (kindNamed (slice (p + 1) e w)) (slotsOf (fieldsOf (kindNamed (slice (p + 1) e w))) (insideAt w e .attrs)) (wsFrom (tagsAt w (p + 1)))) ++ rowsFrom (tagsAt w (p + 1))
+  unfolding rowsFrom
+  rows-start = rw (B .tags, ws-shut (insideAt w e .shut) (tagsAt w (p + 1)), rows-shut (insideAt w e .shut) (tagsAt w (p + 1)))
+
+-- ---- which tags give rows
+
+chosen : {A : Type 0} (b d : Bool) (x y : A) → (b || d) ≡ true → if b (x ∷ []) (if d (y ∷ []) []) ≡ if b x y ∷ []
+chosen true d x y e = refl
+chosen false true x y e = refl
+chosen false false x y e = no (sym e)
+
+neither-row : {A : Type 0} (b d : Bool) (x y : A) → (b || d) ≡ false → if b (x ∷ []) (if d (y ∷ []) []) ≡ []
+neither-row true d x y e = no e
+neither-row false true x y e = no e
+neither-row false false x y e = refl
+
+-- the row of a tag that gives one
+pub row-given : (k : Kind) (vs : Slots) (ws : List Slots) → givesRow k vs ≡ true → rowOf (item k vs ws) ≡ rowFrom k vs ws ∷ []
+unfolding givesRow rowFrom
+row-given k vs ws e = chosen (is k M) (is k R || is k X || (is k S && not (allEmpty vs))) _ _ e
+
+-- no other tag gives a row
+pub row-none : (k : Kind) (vs : Slots) (ws : List Slots) → givesRow k vs ≡ false → rowOf (item k vs ws) ≡ []
+unfolding givesRow
+row-none k vs ws e = neither-row (is k M) (is k R || is k X || (is k S && not (allEmpty vs))) _ _ e
+
+-- a kind that is no row's has no number
+pub no-row-kind : (k : ℕ) → k < 10 → (k ≡ 5 → ⊥) → (k ≡ 6 → ⊥) → (k ≡ 8 → ⊥) → (k ≡ 9 → ⊥) → kindNumber (kindAt k) ≡ 0
+unfolding kindAt
+no-row-kind k h a b d e =
+    let t : (eqb k 5 || (eqb k 6 || (eqb k 8 || (eqb k 9 || eqb (kindNumber (kindAt k)) 0)))) ≡ true =
+    below-at 10 (λ (n : ℕ). eqb n 5 || (eqb n 6 || (eqb n 8 || (eqb n 9 || eqb (kindNumber (kindAt n)) 0)))) refl k h in
+    eqb-true (kindNumber (kindAt k)) 0 (rw (ne-eqb k 5 a, ne-eqb k 6 b, ne-eqb k 8 d, ne-eqb k 9 e) at t)
+
+pub no-row : (k : ℕ) (vs : Slots) → k < 10 → (k ≡ 6 → ⊥) → (k ≡ 8 → ⊥) → (k ≡ 9 → ⊥) → (k ≡ 5 → ⊥) → givesRow (kindAt k) vs ≡ false
+unfolding givesRow
+no-row k vs h a b d e = rw (code-back k h, ne-eqb k 6 a, ne-eqb k 8 b, ne-eqb k 9 d, ne-eqb k 5 e)
+
+-- the two values of an S
+abbrev valueAt : List ℕ → List Raw → ℕ → List ℕ
+valueAt w rs j = value (slice (getD rs j noRaw .at) (getD rs j noRaw .end) w)
+
+told-two : (w : List ℕ) (rs : List Raw) → told w S rs ≡ valueAt w rs 0 ∷ valueAt w rs 1 ∷ []
+unfolding told fieldsOf
+told-two w [] = refl
+told-two w (r ∷ []) = refl
+told-two w (r ∷ q ∷ rs) = refl
+
+and-true : (b : Bool) → (b && true) ≡ b
+and-true true = refl
+and-true false = refl
+
+empty-is : (v : List ℕ) → isEmpty v ≡ eqb (length v) 0
+empty-is [] = refl
+empty-is (c ∷ v) = sym (ne-eqb (suc (length v)) 0 (λ z. omega arith))
+
+pub heading-c : (w : List ℕ) (rs : List Raw) (n : ℕ) → n ≡ 0 + length (valueAt w rs 0) → (n ≡ 0 → ⊥) → givesRow S (told w S rs) ≡ true
+unfolding givesRow
+heading-c w rs n e h =
+    let q : isEmpty (valueAt w rs 0) ≡ false = empty-is (valueAt w rs 0) ∙ ne-eqb (length (valueAt w rs 0)) 0 (λ z. h (omega arith)) in
+    rw (told-two w rs, q)
+
+pub heading-t : (w : List ℕ) (rs : List Raw) (n m : ℕ) → n ≡ 0 + length (valueAt w rs 0) → n ≡ 0 → m ≡ 0 + length (valueAt w rs 1) → givesRow S (told w S rs) ≡ not (eqb m 0)
+unfolding givesRow
+heading-t w rs n m e h f =
+    let q : isEmpty (valueAt w rs 0) ≡ true = empty-is (valueAt w rs 0) ∙ eq-eqb (length (valueAt w rs 0)) 0 (omega arith) in
+    let g : m ≡ length (valueAt w rs 1) = omega arith in
+    rw (told-two w rs, q, and-true (isEmpty (valueAt w rs 1)), empty-is (valueAt w rs 1), g)
+
+-- ---- spans from their numbers
+
+pair-drop : (n : ℕ) (l : List ℕ) → pairs (suc n) l ≡ record { at = getD l 0 0; len = getD l 1 0 } ∷ pairs n (drop 2 l)
+pair-drop n l = refl
+
+-- one span more is made
+pub pair-turn : (l : List ℕ) (spans : List Code.Span) (j : ℕ) (all : List Code.Span) → j < 27 → length spans ≡ 27 → all ≡ take j spans ++ pairs (27 - j) (drop (2 * j) l)
+    → all ≡ take (j + 1) (set spans j (record { at = getD l (2 * j) 0; len = getD l (2 * j + 1) 0 })) ++ pairs (27 - (j + 1)) (drop (2 * (j + 1)) l)
+pair-turn l spans j all h w e =
+    let a : 27 - j ≡ suc (27 - (j + 1)) = omega arith in
+    let b : 2 * suc j ≡ 2 * j + 2 = omega arith in
+    let s : Code.Span = record { at = getD l (2 * j) 0; len = getD l (2 * j + 1) 0 } in
+    let g : getD (drop (2 * j) l) 0 0 ≡ getD l (2 * j) 0 = getD-drop (2 * j) l 0 0 ∙ ap (λ (i : ℕ). getD l i 0) (add-zero (2 * j)) in
+    let f : take (suc j) (set spans j s) ≡ take j spans ++ (s ∷ []) = take-suc-set spans j s (omega arith) in
+    e ∙ rw (a, add-one j, f, b, ← drop-drop 2 (2 * j) l, g, getD-drop (2 * j) l 1 0) (sym (append-assoc (take j spans) (s ∷ []) (pairs (27 - suc j) (drop 2 (drop (2 * j) l)))))
+
+-- all spans are made
+pub pairs-made : (l : List ℕ) (spans : List Code.Span) (j : ℕ) (all : List Code.Span) → j ≡ 27 → length spans ≡ 27 → all ≡ take j spans ++ pairs (27 - j) (drop (2 * j) l) → spans ≡ all
+pairs-made l spans j all h w e =
+    let a : 27 - j ≡ 0 = omega arith in
+    let b : take j spans ≡ spans = take-all j spans (omega arith) in
+    sym (e ∙ rw (a, b) (append-nil spans))

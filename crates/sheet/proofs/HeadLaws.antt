@@ -1,0 +1,419 @@
+-- HeadLaws: the first element of a kind, the values of MP by their places, and a head laid run by run.
+-- Assumes nothing.
+use mathlib.Core.Path.{_≡_, refl, sym, ap, _∙_, subst}
+use mathlib.Core.Logic.{_↔_}
+use mathlib.Core.Bool.{Bool, true, false, not, _&&_, _||_}
+use mathlib.Core.Option.{Option, none, some}
+use mathlib.Core.List.{List, [], _∷_, _++_, map, append-assoc, append-nil}
+use Prim.Native.Nat.{ℕ, zero, suc, _+_, _*_, _-_, _≤_, _<_}
+use native.Mathlib.Nat.{add-zero, zero-add}
+use native.Mathlib.Omega.{arith}
+use lib.Dec.{eqb, leb}
+use lib.ListN.{length, take, drop, getD, set, length-append}
+use lib.Seq.{slice, slice-cons, slice-empty, take-all, drop-length}
+use borrow.Author.Tests.{eqb-true, eqb-false, leb-true}
+use Rattle.paper.specs.Lists.{bytes, if, concat, every, count, number}
+use Rattle.paper.specs.Bytes.{isDecoded}
+use Rattle.paper.specs.Grammar.{Attr, Tag, start, end}
+use Rattle.paper.specs.Values.{value}
+use Rattle.paper.specs.Fields.{Kind, MP, P, A, O, is, Field, fieldsOf, pageNo}
+use Rattle.paper.specs.Rules.{isZero, obeys, keeps}
+use Rattle.paper.specs.Plan.{Slots, Head, Plan, slot, blank}
+use Rattle.paper.specs.Judging.{names, slotsOf, breaks, broken, or}
+use Rattle.paper.specs.Layout.{Span, spansFrom, headValues}
+use Rattle.paper.proofs.Small.{no, both, neither, no-not, below-at}
+use Rattle.paper.proofs.Element.{settled-nil}
+use Rattle.paper.proofs.Told.{is-eq}
+use Rattle.markup.specs.Laid.{laid}
+use Rattle.markup.specs.Walk.{insideAt, tagsAt}
+use Rattle.fields.specs.Places.{noField, fieldAt, firstOf, countOf, kindAt, ruleNumber}
+use Rattle.fields.proofs.TableLaws.{field-at}
+use Rattle.fields.proofs.RuleLaws.{rule-back, not-dose}
+use Rattle.plan.specs.Numbers.{flat, codeSpan, headSpans, planNumbers, showHead}
+use Rattle.plan.proofs.Stores.{laid-long, laid-over}
+use Rattle.plan.proofs.Shown.{HeadShape, head-back}
+use Rattle.plan.specs.declared.Span as Code
+use Rattle.sheet.specs.declared.found.Raw.{Raw}
+use Rattle.sheet.specs.Fold.{strange}
+use Rattle.sheet.specs.Found.{Tells}
+use Rattle.sheet.specs.Content.{kindNamed, attrsOfFirst, slotsFrom, partFrom, headFrom, contentOf}
+use Rattle.sheet.specs.Laying.{settled, told, Sound, Fit, attrsIf, Room, Lays, pairs, LaysHead}
+use Rattle.sheet.proofs.ContentLaws.{Going, begin, turn, finish, told-slots, told-long, told-at, room-one, laid-none, noRaw, two-stored, flat-long, room-first, room-behind, numbers-kept, placed-at, behind, front}
+
+-- ---- the first element of a kind
+
+broken-nil : (fs : List Field) → broken fs (slotsOf fs []) ≡ false
+broken-nil [] = refl
+broken-nil (f ∷ fs) = rw (settled-nil f) (broken-nil fs)
+
+sound-nil : (k : Kind) → Sound k []
+unfolding strange
+sound-nil k = record { known = refl; kept = broken-nil (fieldsOf k) }
+
+-- the first element of a kind is sound, where all are
+pub sound-first : (k : Kind) (ts : List Tag) → Fit ts → Sound k (attrsIf (attrsOfFirst k ts))
+unfolding attrsOfFirst
+sound-first k [] f = sound-nil k
+sound-first k (end ∷ ts) f = sound-first k ts f
+sound-first k (start i n l ∷ ts) f = go (is (kindNamed n) k) refl (sound-first k ts (f .2))
+  where
+    go : (b : Bool) → is (kindNamed n) k ≡ b → Sound k (attrsIf (attrsOfFirst k ts)) → Sound k (attrsIf (if b (some l) (attrsOfFirst k ts)))
+    go true e h = subst (λ (q : Kind). Sound q l) (is-eq (kindNamed n) k e) (f .0)
+    go false e h = h
+
+slots-nil : (fs : List Field) → slotsOf fs [] ≡ blank fs
+slots-nil [] = refl
+slots-nil (f ∷ fs) = rw (settled-nil f, slots-nil fs)
+
+-- its slots
+pub part-slots : (k : Kind) (ts : List Tag) → slotsOf (fieldsOf k) (attrsIf (attrsOfFirst k ts)) ≡ partFrom k ts
+unfolding partFrom
+part-slots k ts = go (attrsOfFirst k ts)
+  where
+    go : (o : Option (List Attr)) → slotsOf (fieldsOf k) (attrsIf o) ≡ slotsFrom k o
+    go none = slots-nil (fieldsOf k)
+    go (some l) = refl
+
+slots-long : (fs : List Field) (l : List Attr) → length (slotsOf fs l) ≡ length fs
+slots-long [] l = refl
+slots-long (f ∷ fs) l = ap suc (slots-long fs l)
+
+pub part-long : (k : Kind) (ts : List Tag) → length (partFrom k ts) ≡ countOf k
+unfolding countOf
+part-long k ts = ap length (sym (part-slots k ts)) ∙ slots-long (fieldsOf k) (attrsIf (attrsOfFirst k ts))
+
+-- the spans at the place of the first element tell its slots
+module _ (w : List ℕ) (k : Kind) (ts : List Tag) (at : ℕ) (h : insideAt w at .attrs ≡ attrsIf (attrsOfFirst k ts)) (f : Fit ts) where
+  pub known-first : strange k (names (insideAt w at .attrs)) ≡ false
+  known-first = ap (λ (l : List Attr). strange k (names l)) h ∙ sound-first k ts f .known
+
+  pub told-first : (rs : List Raw) → Tells w k rs (insideAt w at .attrs) → told w k rs ≡ partFrom k ts
+  told-first rs T = told-slots w k rs (insideAt w at .attrs) T ∙ ap (slotsOf (fieldsOf k)) h ∙ part-slots k ts
+
+-- no value of it breaks its field
+pub part-kept : (k : Kind) (ts : List Tag) → Fit ts → broken (fieldsOf k) (partFrom k ts) ≡ false
+part-kept k ts f = ap (broken (fieldsOf k)) (sym (part-slots k ts)) ∙ sound-first k ts f .kept
+
+-- all fields of an element
+pub whole-slice : (vs : Slots) (c : ℕ) → c ≡ length vs → slice 0 c vs ≡ vs
+whole-slice vs c e = take-all c vs (omega arith)
+
+-- one field of an element
+pub one-slice : (vs : Slots) (j : ℕ) → j < length vs → slice j (suc j) vs ≡ getD vs j [] ∷ []
+one-slice vs j h = slice-cons j (suc j) vs [] (omega arith) h ∙ ap (λ (l : Slots). getD vs j [] ∷ l) (slice-empty (suc j) vs)
+
+-- ---- values that keep their fields
+
+empty-of : (v : List ℕ) → length v ≡ 0 → v ≡ []
+empty-of [] h = refl
+empty-of (c ∷ v) h = absurd (omega arith)
+
+pub kept-at : (fs : List Field) (vs : Slots) (j : ℕ) → broken fs vs ≡ false → j < length fs → breaks (getD fs j noField) (getD vs j []) ≡ false
+kept-at [] vs j e h = absurd (omega arith)
+kept-at (f ∷ fs) [] j e h = refl
+kept-at (f ∷ fs) (v ∷ vs) zero e h = neither (breaks f v) (broken fs vs) e .0
+kept-at (f ∷ fs) (v ∷ vs) (suc j) e h = kept-at fs vs j (neither (breaks f v) (broken fs vs) e .1) (omega arith)
+
+not-false : (b : Bool) → not b ≡ false → b ≡ true
+not-false true e = refl
+not-false false e = no e
+
+-- a present value that does not break its field keeps it
+pub keeps-it : (f : Field) (c : ℕ) (v : List ℕ) → breaks f (c ∷ v) ≡ false → keeps f (c ∷ v) ≡ true
+keeps-it f c v e = not-false (keeps f (c ∷ v)) e
+
+pub short-kept : (f : Field) (v : List ℕ) → breaks f v ≡ false → length v ≤ f .most
+short-kept f [] e = omega arith
+short-kept f (c ∷ v) e =
+    let k = keeps-it f c v e in
+    let a = both (every isDecoded (c ∷ v)) _ k .1 in
+    let b = both (leb (f .least) (length (c ∷ v))) _ a .1 in
+    let d = both (leb (length (c ∷ v)) (f .most)) _ b .0 in
+    leb-true (length (c ∷ v)) (f .most) d
+
+-- ---- MP
+
+-- the values of MP by their places
+pub record ByPlace (vs : Slots) : Type 0 where
+  pub p-is : slot (bytes "p") (fieldsOf MP) vs ≡ getD vs 1 []
+  pub U-is : slot (bytes "U") (fieldsOf MP) vs ≡ getD vs 2 []
+  pub l-is : slot (bytes "l") (fieldsOf MP) vs ≡ getD vs 3 []
+  pub a-is : slot (bytes "a") (fieldsOf MP) vs ≡ getD vs 4 []
+  pub z-is : slot (bytes "z") (fieldsOf MP) vs ≡ getD vs 5 []
+
+pub by-place : (vs : Slots) → length vs ≡ 6 → ByPlace vs
+unfolding fieldsOf
+by-place [] h = absurd (omega arith)
+by-place (v ∷ []) h = absurd (omega arith)
+by-place (v ∷ p ∷ []) h = absurd (omega arith)
+by-place (v ∷ p ∷ u ∷ []) h = absurd (omega arith)
+by-place (v ∷ p ∷ u ∷ l ∷ []) h = absurd (omega arith)
+by-place (v ∷ p ∷ u ∷ l ∷ a ∷ []) h = absurd (omega arith)
+by-place (v ∷ p ∷ u ∷ l ∷ a ∷ z ∷ vs) h = record { p-is = refl; U-is = refl; l-is = refl; a-is = refl; z-is = refl }
+
+pub mp-place : (ts : List Tag) → ByPlace (partFrom MP ts)
+unfolding countOf fieldsOf
+mp-place ts = by-place (partFrom MP ts) (part-long MP ts)
+
+-- a value of a field that is no dose counts as it is
+pub plain-value : (id : ℕ) (r : List ℕ) → (ruleNumber (fieldAt id .rule) ≡ 14 → ⊥) → settled id r ≡ value r
+unfolding settled
+plain-value id r h =
+    let q : isZero (fieldAt id .rule) (value r) ≡ false = rw (rule-back (fieldAt id .rule)) at (not-dose (ruleNumber (fieldAt id .rule)) (value r) h) in rw q
+
+-- the values of MP count as they are
+pub mp-plain : (w : List ℕ) (rs : List Raw) (j : ℕ) → j < 6 → value (slice (getD rs j noRaw .at) (getD rs j noRaw .end) w) ≡ getD (told w MP rs) j []
+unfolding firstOf countOf fieldsOf fieldAt
+mp-plain w rs j h =
+    let t : not (eqb (ruleNumber (fieldAt (firstOf MP + j) .rule)) 14) ≡ true = below-at 6 (λ (n : ℕ). not (eqb (ruleNumber (fieldAt (firstOf MP + n) .rule)) 14)) refl j h in
+    let e = eqb-false (ruleNumber (fieldAt (firstOf MP + j) .rule)) 14 (no-not (eqb (ruleNumber (fieldAt (firstOf MP + j) .rule)) 14) t) in
+    sym (told-at w MP rs j h ∙ plain-value (firstOf MP + j) (slice (getD rs j noRaw .at) (getD rs j noRaw .end) w) e)
+
+mp-count : countOf MP ≡ 6
+unfolding countOf fieldsOf
+mp-count = refl
+
+mp-long : length (fieldsOf MP) ≡ 6
+unfolding fieldsOf
+mp-long = refl
+
+mp-first : firstOf MP ≡ 0
+unfolding firstOf
+mp-first = refl
+
+mp-field : (j : ℕ) → j < 6 → getD (fieldsOf MP) j noField ≡ fieldAt j
+mp-field j h = field-at MP j (omega (arith, mp-count)) ∙ ap fieldAt (ap (λ (n : ℕ). n + j) mp-first ∙ zero-add j)
+
+-- they do not break their fields
+pub mp-kept : (ts : List Tag) (j : ℕ) → Fit ts → j < 6 → breaks (fieldAt j) (getD (partFrom MP ts) j []) ≡ false
+mp-kept ts j f h =
+    ap (λ (x : Field). breaks x (getD (partFrom MP ts) j [])) (sym (mp-field j h))
+    ∙ kept-at (fieldsOf MP) (partFrom MP ts) j (part-kept MP ts f) (omega (arith, mp-long))
+
+-- the spans of MP tell its slots
+pub mp-told : (w : List ℕ) (rs : List Raw) (ts : List Tag) → told w (kindAt 1) rs ≡ partFrom (kindAt 1) ts → told w MP rs ≡ partFrom MP ts
+unfolding kindAt
+mp-told w rs ts e = e
+
+-- one field of MP
+pub mp-slice : (w : List ℕ) (rs : List Raw) (j : ℕ) → j < 6 → slice j (suc j) (told w (kindAt 1) rs) ≡ getD (told w MP rs) j [] ∷ []
+unfolding kindAt
+mp-slice w rs j h = one-slice (told w MP rs) j (omega (arith, told-long w MP rs, mp-count))
+
+pub mp-four : 4 ≤ countOf (kindAt 1)
+unfolding kindAt
+mp-four = omega (arith, mp-count)
+
+pub mp-three : 3 ≤ countOf (kindAt 1)
+unfolding kindAt
+mp-three = omega (arith, mp-count)
+
+-- U and l of the head
+pub ident-is : (ts : List Tag) → headFrom ts .ident ∷ [] ≡ getD (partFrom MP ts) 2 [] ∷ []
+unfolding headFrom
+ident-is ts = rw (mp-place ts .U-is)
+
+pub lang-is : (ts : List Tag) → headFrom ts .lang ∷ [] ≡ or (getD (partFrom MP ts) 3 []) (bytes "de-DE") ∷ []
+unfolding headFrom
+lang-is ts = rw (mp-place ts .l-is)
+
+-- ---- page numbers
+
+-- a page number's value is empty, or shows a number above 0
+pub numbered : (f : Field) (v : List ℕ) (n r : ℕ) → f .rule ≡ pageNo → f .most ≡ 1 → breaks f v ≡ false → n ≡ number 0 v → (n ≡ 0 → r ≡ 1) → ((n ≡ 0 → ⊥) → r ≡ n)
+    → r ≡ number 0 (or v (bytes "1"))
+numbered f [] n r q m b e g h = g e
+numbered f (c ∷ v) n r q m b e g h =
+    let s = short-kept f (c ∷ v) b in
+    let z : v ≡ [] = empty-of v (omega arith) in
+    let k1 = both (every isDecoded (c ∷ v)) _ (keeps-it f c v b) .1 in
+    let k2 = both (leb (f .least) (length (c ∷ v))) _ k1 .1 in
+    let k3 = both (leb (length (c ∷ v)) (f .most)) _ k2 .1 in
+    let k4 : obeys (f .rule) (c ∷ v) ≡ true = both (leb (count 126 (c ∷ v)) (f .tildes)) (obeys (f .rule) (c ∷ v)) k3 .1 in
+    let k5 : obeys pageNo (c ∷ v) ≡ true = rw q at k4 in
+    let k6 = both (leb 49 c && leb c 57) _ k5 .0 in
+    let k7 = leb-true 49 c (both (leb 49 c) (leb c 57) k6 .0) in
+    let d : n ≡ 0 * 10 + (c - 48) = e ∙ ap (λ (x : List ℕ). number 0 (c ∷ x)) z in
+    h (λ y. omega arith) ∙ e
+
+-- ---- the language
+
+or-there : (v d : List ℕ) → (length v ≡ 0 → ⊥) → or v d ≡ v
+or-there [] d h = absurd (h refl)
+or-there (c ∷ v) d h = refl
+
+or-long : (v d : List ℕ) → length v ≤ length (or v d)
+or-long [] d = omega arith
+or-long (c ∷ v) d = omega arith
+
+-- where there is room for the language there is room for its value
+pub language-room : (d : List ℕ) {v text : List ℕ} {n : ℕ} → Room (or v d ∷ []) text n → Room (v ∷ []) text n
+language-room d {v} {text} {n} Q =
+    let l = or-long v d in
+    let a = ap length (append-nil v) in
+    let q = room-one (or v d) text n Q in
+    record { fits = omega (arith, q .0); short = omega (arith, q .1) }
+
+-- the language is there
+pub language-there : (d : List ℕ) {v text text′ : List ℕ} {n e : ℕ} {numbers numbers′ : List ℕ} {at : ℕ} → Lays (v ∷ []) text text′ n e numbers numbers′ at → (e ≡ n → ⊥) → Lays (or v d ∷ []) text text′ n e numbers numbers′ at
+language-there d {v} {text} {text′} {n} {e} {numbers} {numbers′} {at} L h =
+    let q = L .end-is in
+    let a = ap length (append-nil v) in
+    let f : or v d ≡ v = or-there v d (λ z. h (omega arith)) in
+    subst (λ (x : List ℕ). Lays (x ∷ []) text text′ n e numbers numbers′ at) (sym f) L
+
+-- it is absent: there is room for de-DE
+pub language-fits : (d : List ℕ) {v text text₁ : List ℕ} {n e : ℕ} {numbers numbers₁ : List ℕ} {at : ℕ} → Lays (v ∷ []) text text₁ n e numbers numbers₁ at → e ≡ n → Room (or v d ∷ []) text n
+    → length text₁ ≡ length text → n + length d ≤ length text₁
+language-fits d {v} {text} {text₁} {n} L h Q l =
+    let q = L .end-is in
+    let a = ap length (append-nil v) in
+    let z : v ≡ [] = empty-of v (omega arith) in
+    let r = room-one d text n (subst (λ (x : List ℕ). Room (or x d ∷ []) text n) z Q) in
+    omega (arith, r .0)
+
+-- it is absent: de-DE is laid
+pub language-laid : {v text text₁ text₂ : List ℕ} {n e r : ℕ} {numbers numbers₁ : List ℕ} → Lays (v ∷ []) text text₁ n e numbers numbers₁ 2 → e ≡ n → 4 ≤ length numbers
+    → r ≡ n + length (bytes "de-DE") → text₂ ≡ laid text₁ n (bytes "de-DE") → Lays (or v (bytes "de-DE") ∷ []) text text₂ n r numbers (set (set numbers₁ 2 n) 3 5) 2
+language-laid {v} {text} {text₁} {text₂} {n} {e} {r} {numbers} {numbers₁} L h k hr ht =
+    let q = L .end-is in
+    let a = ap length (append-nil v) in
+    let z : v ≡ [] = empty-of v (omega arith) in
+    let t : text₁ ≡ text = L .text-is ∙ ap (λ (x : List ℕ). laid text n (x ++ [])) z ∙ laid-none text n in
+    let m : numbers₁ ≡ laid numbers 2 (0 ∷ 0 ∷ []) = L .numbers-are ∙ ap (λ (x : List ℕ). laid numbers 2 (flat (spansFrom n (x ∷ [])))) z in
+    let s : 4 ≤ length numbers₁ = omega (arith, ap length m ∙ laid-long numbers (0 ∷ 0 ∷ []) 2 k) in
+    subst (λ (x : List ℕ). Lays (or x (bytes "de-DE") ∷ []) text text₂ n r numbers (set (set numbers₁ 2 n) 3 5) 2) (sym z)
+    (record {
+      end-is = hr;
+      text-is = ht ∙ rw t;
+      numbers-are = two-stored numbers₁ 2 n 5 s ∙ rw m (laid-over numbers (0 ∷ 0 ∷ []) 2 k (n ∷ 5 ∷ []) refl);
+    })
+
+-- ---- a head laid run by run
+
+p-count : countOf P ≡ 8
+unfolding countOf fieldsOf
+p-count = refl
+
+a-count : countOf A ≡ 10
+unfolding countOf fieldsOf
+a-count = refl
+
+o-count : countOf O ≡ 7
+unfolding countOf fieldsOf
+o-count = refl
+
+-- the numbers have room for the spans of P, A and O
+pub p-room : countOf (kindAt 2) ≡ 8
+unfolding kindAt
+p-room = p-count
+
+pub a-room : countOf (kindAt 3) ≡ 10
+unfolding kindAt
+a-room = a-count
+
+pub o-room : countOf (kindAt 4) ≡ 7
+unfolding kindAt
+o-room = o-count
+
+-- a page's head has as many values as its elements have fields
+pub head-full : (ts : List Tag) → HeadShape (headFrom ts)
+unfolding headFrom
+head-full ts = record { person-long = part-long P ts ∙ p-count; author-long = part-long A ts ∙ a-count; measures-long = part-long O ts ∙ o-count }
+
+-- the patch
+pub patch-is : (ts : List Tag) → headFrom ts .patch ≡ number 0 (getD (partFrom MP ts) 1 [])
+unfolding headFrom
+patch-is ts = rw (mp-place ts .p-is)
+
+-- the first of its two runs is U and l, the others are P, A and O
+pub head-laid : (h : Head) {text text₁ text₂ text₃ text₄ : List ℕ} {n m p a e : ℕ} {numbers numbers₁ numbers₂ numbers₃ numbers₄ : List ℕ}
+    → HeadShape h → length numbers ≡ 54 → Room (headValues h) text n
+    → Lays (h .ident ∷ h .lang ∷ []) text text₁ n m numbers numbers₁ 0 → Lays (h .person) text₁ text₂ m p numbers₁ numbers₂ 4
+    → Lays (h .author) text₂ text₃ p a numbers₂ numbers₃ 20 → Lays (h .measures) text₃ text₄ a e numbers₃ numbers₄ 40
+    → Lays (headValues h) text text₄ n e numbers numbers₄ 0
+head-laid h {numbers = numbers} H w Q L₁ L₂ L₃ L₄ =
+    let x = H .person-long in
+    let y = H .author-long in
+    let z = H .measures-long in
+    let u : Slots = h .ident ∷ h .lang ∷ [] in
+    let l₁ = numbers-kept L₁ (omega arith) in
+    let l₂ = numbers-kept L₂ (omega arith) in
+    let l₃ = numbers-kept L₃ (omega arith) in
+    let Q₁ : Room (h .person ++ (h .author ++ h .measures)) _ _ = room-behind u (h .person ++ (h .author ++ h .measures)) Q L₁ in
+    let Q₂ = room-behind (h .person) (h .author ++ h .measures) Q₁ L₂ in
+    let s₂ = length-append (h .person) (h .author ++ h .measures) in
+    let s₃ = length-append (h .author) (h .measures) in
+    let B₃ = behind L₃ (placed-at (omega arith) L₄) Q₂ (omega arith) in
+    let B₂ = behind L₂ (placed-at (omega arith) B₃) Q₁ (omega arith) in
+    behind L₁ B₂ Q (omega arith)
+
+pairs-flat : (ss : List Span) → pairs (length ss) (flat ss) ≡ map codeSpan ss
+pairs-flat [] = refl
+pairs-flat (s ∷ ss) = ap (λ (l : List Code.Span). codeSpan s ∷ l) (pairs-flat ss)
+
+spans-long : (n : ℕ) (vs : Slots) → length (spansFrom n vs) ≡ length vs
+spans-long n [] = refl
+spans-long n (v ∷ vs) = ap suc (spans-long (n + length v) vs)
+
+-- numbers that are as many as those laid are just these
+whole-laid : (xs p : List ℕ) → length p ≡ length xs → laid xs 0 p ≡ p
+whole-laid xs p h =
+    let e : 0 + length p ≡ length xs = omega arith in
+    rw (e, drop-length xs) (append-nil p)
+
+-- a head has 27 values
+values-long : (h : Head) → HeadShape h → length (headValues h) ≡ 27
+values-long h H =
+    let x = H .person-long in
+    let y = H .author-long in
+    let z = H .measures-long in
+    omega (arith, length-append (h .person) (h .author ++ h .measures), length-append (h .author) (h .measures))
+
+-- the spans of the head, from its numbers
+pub head-spans : (h : Head) (n : ℕ) (numbers numbers′ : List ℕ) (ss : List Code.Span) → HeadShape h → length numbers ≡ 54 → numbers′ ≡ laid numbers 0 (flat (spansFrom n (headValues h)))
+    → ss ≡ pairs 27 numbers′ → ss ≡ headSpans n h
+head-spans h n numbers numbers′ ss H y e f =
+    let x = values-long h H in
+    let l : length (flat (spansFrom n (headValues h))) ≡ length numbers = flat-long n (headValues h) ∙ omega arith in
+    let q : numbers′ ≡ flat (spansFrom n (headValues h)) = e ∙ whole-laid numbers (flat (spansFrom n (headValues h))) l in
+    let s : length (spansFrom n (headValues h)) ≡ 27 = spans-long n (headValues h) ∙ x in
+    f ∙ ap (pairs 27) q ∙ ap (λ (k : ℕ). pairs k (flat (spansFrom n (headValues h)))) (sym s) ∙ pairs-flat (spansFrom n (headValues h))
+
+-- ---- when two heads are the same
+
+-- heads with one patch, one set of spans and one text are the same
+told-apart : (h g : Head) → HeadShape h → HeadShape g → h .patch ≡ g .patch → headSpans 0 h ≡ headSpans 0 g → concat (headValues h) ≡ concat (headValues g) → h ≡ g
+told-apart h g H G p s t =
+    let plan : Head → Plan = λ (x : Head). record { head = x; rows = [] } in
+    let a : concat (headValues h) ++ [] ≡ concat (headValues g) ++ [] = ap (λ (v : List ℕ). v ++ []) t in
+    let q : planNumbers (plan h) ≡ planNumbers (plan g) = rw (p, s) in
+    sym (head-back (plan h) [] H)
+    ∙ ap (λ (v : List ℕ). showHead v (planNumbers (plan h))) a
+    ∙ ap (showHead (concat (headValues g) ++ [])) q
+    ∙ head-back (plan g) [] G
+
+-- The heads of two pages are the same exactly if the patches, the spans and the bytes that are laid for them from the beginning of a text on are.
+pub same-heads : (ts us : List Tag) {text text′ room room′ : List ℕ} {d e p q : ℕ} {ss rs : List Code.Span} → LaysHead (headFrom ts) text text′ 0 d p ss → LaysHead (headFrom us) room room′ 0 e q rs
+    → (headFrom ts ≡ headFrom us) ↔ ((p ≡ q) × (ss ≡ rs) × (take d text′ ≡ take e room′))
+same-heads ts us {text} {text′} {room} {room′} {d} {e} {p} {q} {ss} {rs} L K = (there, back)
+  where
+    x : take d text′ ≡ concat (headValues (headFrom ts))
+    x = front text text′ (concat (headValues (headFrom ts))) d (L .end-is) (L .text-is)
+
+    y : take e room′ ≡ concat (headValues (headFrom us))
+    y = front room room′ (concat (headValues (headFrom us))) e (K .end-is) (K .text-is)
+
+    there : headFrom ts ≡ headFrom us → (p ≡ q) × (ss ≡ rs) × (take d text′ ≡ take e room′)
+    there z = (
+      L .patch-is ∙ ap (λ (f : Head). f .patch) z ∙ sym (K .patch-is),
+      L .spans-are ∙ ap (headSpans 0) z ∙ sym (K .spans-are),
+      x ∙ ap (λ (f : Head). concat (headValues f)) z ∙ sym y,
+    )
+
+    back : (p ≡ q) × (ss ≡ rs) × (take d text′ ≡ take e room′) → headFrom ts ≡ headFrom us
+    back (a, b, c) =
+        told-apart (headFrom ts) (headFrom us) (head-full ts) (head-full us)
+        (sym (L .patch-is) ∙ a ∙ K .patch-is)
+        (sym (L .spans-are) ∙ b ∙ K .spans-are)
+        (sym x ∙ c ∙ y)
