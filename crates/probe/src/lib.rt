@@ -18,6 +18,11 @@ use markup::walk::Mark;
 use markup::walk::Piece;
 use markup::walk::next_attr;
 use markup::walk::next_tag;
+use plan::Span;
+use reader::answer::refusal_number;
+use reader::answer::refusal_page;
+use reader::answer::refusal_place;
+use reader::reading::read;
 use sheet::judge::Verdict;
 use sheet::judge::judge_page;
 
@@ -170,4 +175,37 @@ pub extern "C" fn probe_judge(page: &[u8], told: &mut [usize; 1]) -> u8 {
         }
         Verdict::Fine => 0,
     }
+}
+
+// The start and the length of each of the head's 27 spans, from place 4 on.
+fn tell_spans(head: [Span; 27], told: &mut [u32; 58]) {
+    let mut j = 0;
+    while j < 27 {
+        let s = head[j];
+        told[4 + 2 * j] = s.at;
+        told[5 + 2 * j] = s.len;
+        j += 1;
+    }
+}
+
+// Reads a call: the number of the refusal, 0 for a plan; in `told` its page and place, the plan's patch and its number of rows, and the head's spans.
+#[no_mangle]
+pub extern "C" fn probe_read<'a>(
+    buffer: &'a [u8],
+    starts: &'a [usize],
+    lens: &'a [usize],
+    rows: &mut [u32],
+    text: &mut [u8],
+    told: &mut [u32; 58],
+) -> u32 {
+    let r = read(buffer, starts, lens, rows, text);
+    let answer = r.answer;
+    let plan = r.plan;
+    told[0] = refusal_page(answer);
+    told[1] = refusal_place(answer);
+    told[2] = plan.patch;
+    told[3] = plan.rows;
+    let head = plan.head;
+    tell_spans(head, told);
+    refusal_number(answer)
 }

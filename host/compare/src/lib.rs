@@ -24,6 +24,20 @@ mod border {
         pub fn probe_child(parent: u8, name: *const u8, length: usize) -> u8;
         pub fn probe_field(element: u8, name: *const u8, length: usize) -> usize;
         pub fn probe_keeps(id: usize, value: *const u8, length: usize) -> u8;
+        #[allow(clippy::too_many_arguments)]
+        pub fn probe_read(
+            buffer: *const u8,
+            size: usize,
+            starts: *const usize,
+            starts_count: usize,
+            lens: *const usize,
+            lens_count: usize,
+            rows: *mut u32,
+            rows_length: usize,
+            text: *mut u8,
+            text_length: usize,
+            told: *mut [u32; 58],
+        ) -> u32;
         pub fn probe_judge(page: *const u8, length: usize, told: *mut [usize; 1]) -> u8;
     }
 }
@@ -138,5 +152,50 @@ pub fn judge(page: &[u8]) -> Result<(), (u8, usize)> {
     match unsafe { border::probe_judge(page.as_ptr(), page.len(), &mut place) } {
         0 => Ok(()),
         number => Err((number, place[0])),
+    }
+}
+
+/// What a call of the proved reader gives: the number, page and place of its refusal (0 0 0 for a plan), the patch, the number of rows and the head's
+/// spans, and the lent rooms afterwards.
+#[derive(Debug, PartialEq, Eq)]
+pub struct Reading {
+    pub refusal: [u32; 3],
+    pub head: Vec<u32>,
+    pub rows: Vec<u32>,
+    pub text: Vec<u8>,
+}
+
+/// Reads a call with rooms that hold `poison`.
+pub fn read(
+    buffer: &[u8],
+    starts: &[usize],
+    lens: &[usize],
+    room: (usize, usize),
+    poison: u8,
+) -> Reading {
+    let mut rows = vec![u32::from(poison); room.0];
+    let mut text = vec![poison; room.1];
+    let mut told = [0; 58];
+    // SAFETY: each pair of arguments is one slice; rows and text are written within their lengths, `told` has the 58 numbers that are written.
+    let number = unsafe {
+        border::probe_read(
+            buffer.as_ptr(),
+            buffer.len(),
+            starts.as_ptr(),
+            starts.len(),
+            lens.as_ptr(),
+            lens.len(),
+            rows.as_mut_ptr(),
+            rows.len(),
+            text.as_mut_ptr(),
+            text.len(),
+            &mut told,
+        )
+    };
+    Reading {
+        refusal: [number, told[0], told[1]],
+        head: told[2..].to_vec(),
+        rows,
+        text,
     }
 }

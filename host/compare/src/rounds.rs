@@ -2,13 +2,14 @@
 
 use inputs::{bytes_like_page, case, raw_value, value_near, Random};
 use second::class::{allowed, class};
+use second::layout::{Numbers, RowNumbers, Span, SUBSTANCES};
 use second::markup::well_formed;
 use second::table::{Element, Field, Name, Rule, ELEMENTS};
 use second::tags::{outermost, Tag};
 use second::value::{read_value, spell};
 use second::PAGE_BYTES;
 
-use crate::Event;
+use crate::{Event, Reading};
 
 /// What stands in a room before a call, and must stand there afterwards wherever nothing was laid.
 const POISON: u8 = 0xA5;
@@ -30,8 +31,10 @@ pub fn differences(seed: u64) -> Vec<String> {
     found
 }
 
-/// What is compared for a set of pages: each page's bytes, its markup, and its refusal of 2 to 8 with the place.
+/// What is compared for a set of pages: each page's bytes, its markup, and its refusal of 2 to 8 with the place;
+/// and the set read as one call.
 pub fn set(title: &str, pages: &[Vec<u8>], found: &mut Vec<String>) {
+    reading(title, pages, found);
     for (at, page) in pages.iter().enumerate() {
         let name = |what: &str| format!("{title}, page {}: {what}", at + 1);
         refused_byte(page, &name, found);
@@ -210,4 +213,79 @@ fn rule(
             element.letters, field.letter
         )));
     }
+}
+
+/// The room that document 01 names: 256 records of 48 numbers, and 12,600 bytes of text.
+const ROOM: (usize, usize) = (256 * 48, 12_600);
+
+/// The pages handed in as one call: refusal with page and place, or the plan's numbers, rows and text; and the lent rooms wherever nothing was laid.
+fn reading(title: &str, pages: &[Vec<u8>], found: &mut Vec<String>) {
+    let buffer = pages.concat();
+    let lens: Vec<usize> = pages.iter().map(Vec::len).collect();
+    let starts: Vec<usize> = (0..lens.len()).map(|at| lens[..at].iter().sum()).collect();
+    let given = crate::read(&buffer, &starts, &lens, ROOM, POISON);
+    let slices: Vec<&[u8]> = pages.iter().map(Vec::as_slice).collect();
+    let expected = match second::read(&slices) {
+        Err(refusal) => Reading {
+            refusal: [
+                refusal.number.into(),
+                refusal.page as u32,
+                refusal.place as u32,
+            ],
+            head: vec![0; 56],
+            rows: vec![u32::from(POISON); ROOM.0],
+            text: vec![POISON; ROOM.1],
+        },
+        Ok(plan) => {
+            let (numbers, mut text) = second::lay(&plan);
+            text.resize(ROOM.1, POISON);
+            let mut rows: Vec<u32> = numbers.rows.iter().flat_map(record).collect();
+            rows.resize(ROOM.0, POISON.into());
+            Reading {
+                refusal: [0; 3],
+                head: head(&numbers),
+                rows,
+                text,
+            }
+        }
+    };
+    if given != expected {
+        found.push(format!(
+            "{title}: the set read as one call ({:?} for {:?})",
+            given.refusal, expected.refusal
+        ));
+    }
+}
+
+fn numbers_of(spans: &[Span]) -> impl Iterator<Item = u32> + '_ {
+    spans
+        .iter()
+        .flat_map(|span| [span.start as u32, span.length as u32])
+}
+
+/// The patch, the number of rows, and the 27 spans of the head: U and l of MP, then P, A and O.
+fn head(numbers: &Numbers) -> Vec<u32> {
+    let parts = &numbers.head.parts;
+    let spans = [&parts[0][2..4], &parts[1], &parts[2], &parts[3]].concat();
+    let first = [u32::from(numbers.head.patch), numbers.rows.len() as u32];
+    first.into_iter().chain(numbers_of(&spans)).collect()
+}
+
+/// A row's record: its kind, its package number, its spans, and 0 up to 48 numbers. The package number's field has no span.
+fn record(row: &RowNumbers) -> Vec<u32> {
+    let (kind, own) = match row.kind {
+        b'H' => (1, &row.parts[0][..]),
+        b'M' => (2, &row.parts[1][1..]),
+        b'R' => (3, &row.parts[2][..]),
+        _ => (4, &row.parts[3][..]),
+    };
+    let mut record = vec![kind, row.package];
+    record.extend(numbers_of(own));
+    for part in &row.parts[SUBSTANCES..] {
+        if kind == 2 {
+            record.extend(numbers_of(part));
+        }
+    }
+    record.resize(48, 0);
+    record
 }
