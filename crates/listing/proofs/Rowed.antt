@@ -1,0 +1,208 @@
+-- Rowed: the lines of rows from their records, row after row.
+-- Assumes nothing.
+use mathlib.Core.Path.{_≡_, refl, sym, ap, _∙_}
+use mathlib.Core.Bool.{Bool, true, false, _&&_}
+use mathlib.Core.List.{List, [], _∷_, _++_, append-nil, append-assoc}
+use Prim.Native.Nat.{ℕ, zero, suc, _+_, _*_, _-_, _≤_, _<_}
+use native.Mathlib.Nat.{le-of-suc-le-suc, not-suc-le-zero}
+use native.Mathlib.Omega.{arith}
+use lib.Dec.{eqb}
+use lib.ListN.{length, take, drop, getD, drop-of-length-le}
+use lib.Seq.{getD-take, getD-drop, drop-drop}
+use Rattle.paper.specs.Lists.{bytes, if, every}
+use Rattle.paper.specs.Fields.{Kind, unknown, S, M, W, R, X, is, Field, fieldsOf}
+use Rattle.paper.specs.Plan.{Slots, Row}
+use Rattle.paper.specs.Judging.{allEmpty}
+use Rattle.paper.specs.Layout.{Span, shown, shownAll}
+use Rattle.paper.specs.Writing.{decimal}
+use Rattle.paper.specs.Listing.{Line, line, path, fieldLines, elementLines, wLines, rowMark, rowLines, rowsLines, print}
+use Rattle.paper.proofs.Small.{both}
+use Rattle.plan.specs.Numbers.{recordAt, spanIn, spansIn, spansOf, kindShown, ownSpans, twos, before, toLast, rowWith, showRow, showRows, within, inText, knownKind, spareAbsent, fitRecord, fitRows}
+use Rattle.plan.specs.Records.{paperKind, codeKind}
+use Rattle.plan.proofs.Shown.{row-next, rows-shown}
+use Rattle.listing.specs.Written.{given}
+use Rattle.listing.specs.Numbered.{spanAt, spansAt, fieldsFrom, linesOf, spanPlace, plainRow, substanceLines, medicationRow}
+use Rattle.listing.proofs.Fielded.{print-append}
+
+-- ---- the spans of a record among the numbers of the rows
+
+number-at : (rows : List ℕ) (i m : ℕ) → m < 48 → getD (recordAt rows i) m 0 ≡ getD rows (i * 48 + m) 0
+number-at rows i m h = getD-take 48 (drop (i * 48) rows) m 0 h ∙ getD-drop (i * 48) rows m 0
+
+span-at-place : (rows : List ℕ) (i j : ℕ) → j < 19 → spanIn (recordAt rows i) j ≡ spanAt rows (spanPlace i j)
+span-at-place rows i j h =
+    let a : i * 48 + (2 + 2 * j) ≡ spanPlace i j = omega arith in
+    let b : i * 48 + (3 + 2 * j) ≡ suc (spanPlace i j) = omega arith in
+    let x = number-at rows i (2 + 2 * j) (omega arith) ∙ ap (λ (k : ℕ). getD rows k 0) a in
+    let y = number-at rows i (3 + 2 * j) (omega arith) ∙ ap (λ (k : ℕ). getD rows k 0) b in
+    ap (λ (k : ℕ). record { at = k; len = getD (recordAt rows i) (3 + 2 * j) 0 }) x ∙ ap (λ (k : ℕ). record { at = getD rows (spanPlace i j) 0; len = k }) y
+
+-- n spans of a record, from span j on
+spans-in-place : (rows : List ℕ) (i n j : ℕ) → j + n ≤ 19 → spansIn n j (recordAt rows i) ≡ spansAt n (spanPlace i j) rows
+unfolding spansIn spansAt
+spans-in-place rows i zero j h = refl
+spans-in-place rows i (suc n) j h =
+    let e : spanPlace i (suc j) ≡ suc (suc (spanPlace i j)) = omega arith in
+    ap (λ (s : Span). s ∷ spansIn n (suc j) (recordAt rows i)) (span-at-place rows i j (omega arith))
+    ∙ ap (λ (r : List Span). spanAt rows (spanPlace i j) ∷ r) (spans-in-place rows i n (suc j) (omega arith) ∙ ap (λ (k : ℕ). spansAt n k rows) e)
+
+module _ (p : Span → Bool) (l : List ℕ) where
+  each-span : (m j i : ℕ) → i < m → every p (spansIn m j l) ≡ true → p (spanIn l (j + i)) ≡ true
+  unfolding spansIn
+  each-span zero j i h e = absurd (not-suc-le-zero h)
+  each-span (suc m) j zero h e = let q : j + 0 ≡ j = omega arith in ap (λ (k : ℕ). p (spanIn l k)) q ∙ both (p (spanIn l j)) (every p (spansIn m (suc j) l)) e .0
+  each-span (suc m) j (suc i) h e =
+      let q : j + suc i ≡ suc j + i = omega arith in
+      ap (λ (k : ℕ). p (spanIn l k)) q ∙ each-span m (suc j) i (le-of-suc-le-suc h) (both (p (spanIn l j)) (every p (spansIn m (suc j) l)) e .1)
+
+  all-spans : (n j : ℕ) → ((i : ℕ) → i < n → p (spanIn l (j + i)) ≡ true) → every p (spansIn n j l) ≡ true
+  unfolding spansIn
+  all-spans zero j f = refl
+  all-spans (suc n) j f =
+      let q : j + 0 ≡ j = omega arith in
+      rw (ap (λ (k : ℕ). p (spanIn l k)) (sym q) ∙ f 0 (omega arith))
+      (all-spans n (suc j) (λ i h. let r : suc j + i ≡ j + suc i = omega arith in ap (λ (k : ℕ). p (spanIn l k)) r ∙ f (suc i) (omega arith)))
+
+-- the spans of a row that points nowhere outside the text lie within it
+pub spans-inside : (t rows : List ℕ) (i n j : ℕ) → j + n ≤ 19 → inText t (recordAt rows i) ≡ true → every (within (length t)) (spansAt n (spanPlace i j) rows) ≡ true
+unfolding inText
+spans-inside t rows i n j h e =
+    let p : Span → Bool = within (length t) in
+    ap (every p) (sym (spans-in-place rows i n j h))
+    ∙ all-spans p (recordAt rows i) n j (λ m q. let z : 0 + (j + m) ≡ j + m = omega arith in ap (λ (k : ℕ). p (spanIn (recordAt rows i) k)) (sym z) ∙ each-span p (recordAt rows i) 19 0 (j + m) (omega arith) e)
+
+-- ---- a row's kind
+
+kind-told : (a b c d : Bool) → paperKind (codeKind (if a S (if b M (if c R (if d X unknown))))) ≡ if a S (if b M (if c R (if d X unknown)))
+kind-told true b c d = refl
+kind-told false true c d = refl
+kind-told false false true d = refl
+kind-told false false false true = refl
+kind-told false false false false = refl
+
+-- the kind that a number shows is told by the code's
+pub kind-is : (n : ℕ) → kindShown n ≡ paperKind (codeKind (kindShown n))
+kind-is n = sym (kind-told (eqb n 1) (eqb n 2) (eqb n 3) (eqb n 4))
+
+-- ---- a row's lines
+
+plain-with : (k : Kind) (n : ℕ) (vs : Slots) → is k M ≡ false → rowLines (rowWith k n vs) ≡ line (bytes "row") (rowMark k) ∷ elementLines k (take (ownSpans k) vs)
+plain-with k n vs e = rw e (ap (λ (r : List Line). line (bytes "row") (rowMark k) ∷ r) (append-nil (elementLines k (take (ownSpans k) vs))))
+
+front-shown : (t l : List ℕ) (m n j : ℕ) → n ≤ m → take n (shownAll t (spansIn m j l)) ≡ shownAll t (spansIn n j l)
+unfolding spansIn
+front-shown t l m zero j h = refl
+front-shown t l zero (suc n) j h = absurd (omega arith)
+front-shown t l (suc m) (suc n) j h = ap (λ (r : Slots). shown t (spanIn l j) ∷ r) (front-shown t l m n (suc j) (omega arith))
+
+behind-shown : (t l : List ℕ) (m n j : ℕ) → n ≤ m → drop n (shownAll t (spansIn m j l)) ≡ shownAll t (spansIn (m - n) (j + n) l)
+unfolding spansIn
+behind-shown t l m zero j h = let a : m - 0 ≡ m = omega arith in let b : j + 0 ≡ j = omega arith in rw (a, b)
+behind-shown t l zero (suc n) j h = absurd (omega arith)
+behind-shown t l (suc m) (suc n) j h =
+    let a : suc m - suc n ≡ m - n = omega arith in
+    let b : j + suc n ≡ suc j + n = omega arith in
+    rw (a, b) (behind-shown t l m n (suc j) (omega arith))
+
+-- the values of n spans of a record, from span j on
+part-of-row : (t rows : List ℕ) (i n j : ℕ) → j + n ≤ 19 → take n (drop j (shownAll t (spansOf (recordAt rows i)))) ≡ shownAll t (spansAt n (spanPlace i j) rows)
+part-of-row t rows i n j h =
+    let z : 0 + j ≡ j = omega arith in
+    ap (take n) (behind-shown t (recordAt rows i) 19 j 0 (omega arith) ∙ ap (λ (k : ℕ). shownAll t (spansIn (19 - j) k (recordAt rows i))) z)
+    ∙ front-shown t (recordAt rows i) (19 - j) n j (omega arith)
+    ∙ ap (shownAll t) (spans-in-place rows i n j h)
+
+-- a row that is no medication
+pub plain-is : (t rows : List ℕ) (i : ℕ) (k : Kind) (first : ℕ) → kindShown (getD (recordAt rows i) 0 0) ≡ k → is k M ≡ false → ownSpans k ≤ 19 → fieldsOf k ≡ fieldsFrom first (ownSpans k)
+    → rowLines (showRow t (recordAt rows i)) ≡ plainRow (rowMark k) (path k) first (ownSpans k) t rows i
+unfolding showRow
+plain-is t rows i k first e m h f =
+    let l : List ℕ = recordAt rows i in
+    let vs : Slots = shownAll t (spansOf l) in
+    ap (λ (q : Kind). rowLines (rowWith q (getD l 1 0) vs)) e
+    ∙ plain-with k (getD l 1 0) vs m
+    ∙ ap (λ (q : List Field). line (bytes "row") (rowMark k) ∷ fieldLines (path k) q (take (ownSpans k) vs)) f
+    ∙ ap (λ (q : Slots). line (bytes "row") (rowMark k) ∷ fieldLines (path k) (fieldsFrom first (ownSpans k)) q) (part-of-row t rows i (ownSpans k) 0 (omega arith))
+
+-- the fields of a row's elements are parts of the table
+pub row-fields : (fieldsOf S ≡ fieldsFrom 31 2) × (fieldsOf R ≡ fieldsFrom 49 2) × (fieldsOf X ≡ fieldsFrom 51 1) × (fieldsOf W ≡ fieldsFrom 47 2) × (fieldsOf unknown ≡ fieldsFrom 0 0)
+unfolding fieldsOf fieldsFrom
+row-fields = (refl, refl, refl, refl, refl)
+
+med-lines : (v : List ℕ) (vs : Slots) → elementLines M (v ∷ vs) ≡ given (bytes "MP.S.M.p") v ++ fieldLines (path M) (fieldsFrom 34 13) vs
+unfolding fieldsOf fieldsFrom
+med-lines [] vs = refl
+med-lines (c ∷ v) vs = refl
+
+-- a W without values has no lines
+none-lines : (k : List ℕ) (fs : List Field) (w : Slots) → allEmpty w ≡ true → fieldLines k fs w ≡ []
+none-lines k [] w e = refl
+none-lines k (f ∷ fs) [] e = refl
+none-lines k (f ∷ fs) ([] ∷ w) e = none-lines k fs w e
+none-lines k (f ∷ fs) ((c ∷ v) ∷ w) e = let z : _≡_ {A = ℕ} 0 1 = cc in absurd (omega arith)
+
+last-lines : (w : Slots) (ws : List Slots) → wLines (before w ws) ≡ elementLines W w ++ wLines ws
+last-lines w [] = at (allEmpty w) refl
+  where
+    at : (b : Bool) → allEmpty w ≡ b → wLines (if b [] (w ∷ [])) ≡ elementLines W w ++ []
+    at true e = rw (none-lines (path W) (fieldsOf W) w e)
+    at false e = refl
+last-lines w (v ∷ ws) = refl
+
+-- the absent W behind the last present one have no lines
+to-last-lines : (ws : List Slots) → wLines (toLast ws) ≡ wLines ws
+to-last-lines [] = refl
+to-last-lines (w ∷ ws) = last-lines w (toLast ws) ∙ ap (λ (r : List Line). elementLines W w ++ r) (to-last-lines ws)
+
+-- the lines of a record's W
+substances-are : (t rows : List ℕ) (i : ℕ) → wLines (toLast (twos 3 (drop 13 (shownAll t (spansOf (recordAt rows i)))))) ≡ substanceLines t rows i
+substances-are t rows i =
+    let vs : Slots = shownAll t (spansOf (recordAt rows i)) in
+    let b : take 2 (drop 2 (drop 13 vs)) ≡ shownAll t (spansAt 2 (spanPlace i 15) rows) = ap (take 2) (drop-drop 2 13 vs) ∙ part-of-row t rows i 2 15 (omega arith) in
+    let c : take 2 (drop 2 (drop 2 (drop 13 vs))) ≡ shownAll t (spansAt 2 (spanPlace i 17) rows) = ap (take 2) (ap (drop 2) (drop-drop 2 13 vs) ∙ drop-drop 2 15 vs) ∙ part-of-row t rows i 2 17 (omega arith) in
+    to-last-lines (twos 3 (drop 13 vs))
+    ∙ rw (part-of-row t rows i 2 13 (omega arith), b, c, row-fields .3, append-nil (linesOf (path W) 47 2 t (spanPlace i 17) rows))
+
+-- a medication row
+pub medication-is : (t rows : List ℕ) (i : ℕ) → kindShown (getD (recordAt rows i) 0 0) ≡ M → rowLines (showRow t (recordAt rows i)) ≡ medicationRow t rows i
+unfolding showRow
+medication-is t rows i e =
+    let l : List ℕ = recordAt rows i in
+    let vs : Slots = shownAll t (spansOf l) in
+    let n : List ℕ = decimal (getD l 1 0) in
+    let own : take 13 vs ≡ shownAll t (spansAt 13 (spanPlace i 0) rows) = part-of-row t rows i 13 0 (omega arith) in
+    let g : List Line = given (bytes "MP.S.M.p") n in
+    let f : List Line = linesOf (path M) 34 13 t (spanPlace i 0) rows in
+    let fields-are : elementLines M (n ∷ take 13 vs) ≡ g ++ f = med-lines n (take 13 vs) ∙ ap (λ (q : Slots). g ++ fieldLines (path M) (fieldsFrom 34 13) q) own in
+    ap (λ (q : Kind). rowLines (rowWith q (getD l 1 0) vs)) e
+    ∙ ap (λ (q : List Line). line (bytes "row") (bytes "M") ∷ (q ++ wLines (toLast (twos 3 (drop 13 vs))))) fields-are
+    ∙ ap (λ (q : List Line). line (bytes "row") (bytes "M") ∷ ((g ++ f) ++ q)) (substances-are t rows i)
+    ∙ ap (λ (q : List Line). line (bytes "row") (bytes "M") ∷ q) (append-assoc g f (substanceLines t rows i))
+
+-- ---- the rows in a loop
+
+-- each of the rows points nowhere outside the text
+pub row-inside : (t : List ℕ) (n : ℕ) (rows : List ℕ) (i : ℕ) → i < n → fitRows t n rows ≡ true → inText t (recordAt rows i) ≡ true
+row-inside t zero rows i h e = absurd (not-suc-le-zero h)
+row-inside t (suc n) rows zero h e =
+    let (a, b) = both (fitRecord t (take 48 rows)) (fitRows t n (drop 48 rows)) e in
+    let (c, d) = both (knownKind (getD (take 48 rows) 0 0)) (inText t (take 48 rows) && spareAbsent (take 48 rows)) a in
+    both (inText t (take 48 rows)) (spareAbsent (take 48 rows)) d .0
+row-inside t (suc n) rows (suc i) h e =
+    let (a, b) = both (fitRecord t (take 48 rows)) (fitRows t n (drop 48 rows)) e in
+    let q : 48 + i * 48 ≡ suc i * 48 = omega arith in
+    ap (λ (l : List ℕ). inText t (take 48 l)) (sym (drop-drop (i * 48) 48 rows ∙ ap (λ (k : ℕ). drop k rows) q)) ∙ row-inside t n (drop 48 rows) i (le-of-suc-le-suc h) b
+
+-- the lines of the rows from row i on
+abbrev pub rowsLeft : List ℕ → ℕ → List ℕ → ℕ → List ℕ
+rowsLeft t n rows i = print (rowsLines (drop i (showRows t n rows)))
+
+-- the next row's lines are printed first
+pub next-row : (t : List ℕ) (n : ℕ) (rows : List ℕ) (i : ℕ) → i < n → rowsLeft t n rows i ≡ print (rowLines (showRow t (recordAt rows i))) ++ rowsLeft t n rows (i + 1)
+next-row t n rows i h =
+    ap (λ (q : List Row). print (rowsLines q)) (row-next t n rows i h)
+    ∙ print-append (rowLines (showRow t (recordAt rows i))) (rowsLines (drop (i + 1) (showRows t n rows)))
+
+-- nothing is left behind the last row
+pub no-row : (t : List ℕ) (n : ℕ) (rows : List ℕ) (i : ℕ) → n ≤ i → rowsLeft t n rows i ≡ []
+no-row t n rows i h = let l = rows-shown t n rows in ap (λ (q : List Row). print (rowsLines q)) (drop-of-length-le (showRows t n rows) {i = i} (omega arith))
