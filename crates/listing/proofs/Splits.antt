@@ -184,14 +184,19 @@ lengths-long (suc k) (w ∷ ps) = ap suc (lengths-long k ps)
 laid-front : (o p : List ℕ) (r : ℕ) → length p ≡ r → take r (laid o 0 p) ≡ p
 laid-front o p r e = take-at p (drop (0 + length p) o) r e
 
+-- The answer's first numbers are where the pages begin, and how long they are.
+pub split-fronts : (input starts₀ lens₀ starts lens : List ℕ) (r : ℕ) → Split input starts₀ lens₀ starts lens r
+    → (take r starts ≡ take 10 (startsFrom 0 (parted input))) × (take r lens ≡ take 10 (lengths (parted input)))
+split-fronts input starts₀ lens₀ starts lens r w =
+    let ps : List (List ℕ) = parted input in
+    (ap (take r) (w .1) ∙ laid-front starts₀ (take 10 (startsFrom 0 ps)) r (starts-long 10 0 ps ∙ sym (w .0)), ap (take r) (w .2) ∙ laid-front lens₀ (take 10 (lengths ps)) r (lengths-long 10 ps ∙ sym (w .0)))
+
 -- At most nine pages: the answer's starts and lengths show the pages of the input.
 pub nine-or-fewer : (input starts₀ lens₀ starts lens : List ℕ) (r : ℕ) → Split input starts₀ lens₀ starts lens r → r ≤ 9 → pagesAt input (take r starts) (take r lens) ≡ parted input
 nine-or-fewer input starts₀ lens₀ starts lens r w h =
     let ps : List (List ℕ) = parted input in
     let few : length ps ≤ 10 = let m = length-take 10 ps in omega (arith, w .0) in
-    let all : take 10 ps ≡ ps = take-all 10 ps few in
-    let a : take r starts ≡ take 10 (startsFrom 0 ps) = ap (take r) (w .1) ∙ laid-front starts₀ (take 10 (startsFrom 0 ps)) r (starts-long 10 0 ps ∙ sym (w .0)) in
-    let b : take r lens ≡ take 10 (lengths ps) = ap (take r) (w .2) ∙ laid-front lens₀ (take 10 (lengths ps)) r (lengths-long 10 ps ∙ sym (w .0)) in
+    let (a, b) = split-fronts input starts₀ lens₀ starts lens r w in
     let sl : take 10 (startsFrom 0 ps) ≡ startsFrom 0 ps = take-all 10 (startsFrom 0 ps) (omega (arith, starts-all 0 ps)) in
     let ll : take 10 (lengths ps) ≡ lengths ps = take-all 10 (lengths ps) (omega (arith, lengths-all ps)) in
     rw (a, b, sl, ll) (pages-back input)

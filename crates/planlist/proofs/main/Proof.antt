@@ -1,0 +1,61 @@
+-- `planlist::main` is safe: what is printed is never longer than the room.
+-- Assumes nothing.
+use mathlib.Core.Path.{_≡_}
+use Prim.Native.Nat.{ℕ, _≤_}
+use native.Mathlib.Omega.{arith}
+use lib.ListN.{length, length-take, length-replicate}
+use Rattle.tollgilt.proofs.InputLaws.{printed-fits}
+use borrow.Author.Needs.{needs}
+use Rattle.planlist.proofs.main.Statement.{statement}
+use Rattle.planlist.proofs.main.Tie as tie
+
+-- what is printed lies in the room
+within : (c : tie.After-list-input) → c .list-input .result ≤ length (c .list-input .last .1 .0)
+within c =
+    let long : length (c .list-input .last .1 .0) ≡ 25200 = search needs in
+    omega (arith, printed-fits _ _ _ (c .list-input .ensures .0), length-replicate {A = ℕ} 25200 0)
+
+slice-aggregate-read-full : tie.Need-slice-aggregate-read-full
+slice-aggregate-read-full c = search needs
+
+read-full-requires : tie.Need-read-full-requires
+read-full-requires c κs = search needs
+
+array-share-prefix-input : tie.Need-array-share-prefix-input
+array-share-prefix-input c = search needs
+
+slice-aggregate-list-input : tie.Need-slice-aggregate-list-input
+slice-aggregate-list-input c = search needs
+
+slice-aggregate-list-input-2 : tie.Need-slice-aggregate-list-input-2
+slice-aggregate-list-input-2 c = search needs
+
+list-input-requires : tie.Need-list-input-requires
+list-input-requires c κs = search needs
+
+array-share-prefix-out : tie.Need-array-share-prefix-out
+array-share-prefix-out c = within (c .before)
+
+slice-aggregate-write-all : tie.Need-slice-aggregate-write-all
+slice-aggregate-write-all c = simp length-take (omega (arith, within (c .before .before)))
+
+write-all-requires : tie.Need-write-all-requires
+write-all-requires c κs = search needs
+
+returns : tie.Need-returns
+returns c = search needs
+
+pub main-spec : {M : Type 1} → statement M
+main-spec =
+    tie.close
+    (tie.spec
+    slice-aggregate-read-full
+    read-full-requires
+    array-share-prefix-input
+    slice-aggregate-list-input
+    slice-aggregate-list-input-2
+    list-input-requires
+    array-share-prefix-out
+    slice-aggregate-write-all
+    write-all-requires
+    returns)

@@ -1,0 +1,123 @@
+-- InputLaws: the pages of planlist's input, handed in by their starts and lengths, are read as document 01 says; and what is printed for the answer.
+-- Assumes nothing.
+use mathlib.Core.Path.{_≡_, refl, ap, sym, _∙_}
+use mathlib.Core.Bool.{Bool, true, false}
+use mathlib.Core.List.{List, [], _∷_}
+use Prim.Native.Nat.{ℕ, zero, suc, _+_, _≤_, _<_}
+use native.Mathlib.Omega.{arith}
+use lib.Dec.{leb}
+use lib.ListN.{length, take, length-take}
+use borrow.Author.Tests.{le-leb, lt-leb, leb-true, leb-false}
+use Rattle.paper.specs.Lists.{if}
+use Rattle.paper.specs.Reading as Paper
+use Rattle.paper.specs.Reading.{read}
+use Rattle.paper.specs.Listing.{onto, parted, refusalLines, answerLines, planlist}
+use Rattle.paper.specs.Calls.{listingRoom, inside, readAt, listCall}
+use Rattle.paper.proofs.CallLaws.{many, reads-pages, one}
+use Rattle.paper.proofs.Rooms.{answer-fits}
+use Rattle.markup.specs.Laid.{laid}
+use Rattle.listing.specs.Split.{startsFrom, lengths}
+use Rattle.listing.proofs.Splits.{Split, split-fronts, nine-or-fewer}
+use Rattle.reader.specs.Answers.{Numbers, numbersOf}
+use Rattle.tollgilt.specs.Promise.{Promised, answered}
+use Rattle.tollgilt.specs.Printed.{printed}
+use Rattle.tollgilt.specs.declared.list.Listed.{Listed}
+use Rattle.tollgilt.proofs.ListLaws.{Numbered, read-numbered}
+
+-- ---- the pages lie in the input
+
+-- how many bytes pages take, each with one zero byte behind it
+abbrev spread : List (List ℕ) → ℕ
+spread [] = 0
+spread (w ∷ ws) = length w + 1 + spread ws
+
+onto-spread : (c : ℕ) (ws : List (List ℕ)) → 1 ≤ spread ws → spread (onto c ws) ≡ suc (spread ws)
+onto-spread c [] h = absurd (omega arith)
+onto-spread c (w ∷ ws) h = omega arith
+
+-- the last page has no zero byte behind it
+parted-spread : (s : List ℕ) → spread (parted s) ≡ length s + 1
+parted-spread [] = refl
+parted-spread (zero ∷ s) = let h = parted-spread s in omega arith
+parted-spread (suc c ∷ s) = let h = parted-spread s in let e = onto-spread (suc c) (parted s) (omega arith) in omega arith
+
+first-inside : (m : ℕ) (b : List ℕ) (n : ℕ) (ws : List (List ℕ)) → n + spread ws ≤ length b + 1 → inside b (take m (startsFrom n ws)) (take m (lengths ws)) ≡ true
+first-inside zero b n ws h = refl
+first-inside (suc m) b n [] h = refl
+first-inside (suc m) b n (w ∷ ws) h = rw (le-leb (n + length w) (length b) (omega arith)) (first-inside m b (n + length w + 1) ws (omega arith))
+
+-- more than nine pages are refusal 1
+many-read : (f : List (List ℕ)) → 9 < length f → read f ≡ Paper.refusal 1 0 0
+unfolding read
+many-read f h = rw (le-leb 1 (length f) (omega arith), lt-leb (length f) 9 h)
+
+-- the pages that the input was split into, handed in, are read as the pages of the input
+pub split-read : (out s starts₀ lens₀ starts lens : List ℕ) (r : ℕ) → Split s starts₀ lens₀ starts lens r → 10 ≤ length starts → 25200 ≤ length out
+    → answered out s (take r starts) (take r lens) ≡ read (parted s)
+unfolding listCall
+split-read out s starts₀ lens₀ starts lens r w ten room = ap (λ (x : Bool). readAt x s (take r starts) (take r lens)) (le-leb listingRoom (length out) room) ∙ at (leb r 9) refl
+  where
+    lie : inside s (take r starts) (take r lens) ≡ true
+    lie = let (a, b) = split-fronts s starts₀ lens₀ starts lens r w in rw (a, b) (first-inside 10 s 0 (parted s) (omega (arith, parted-spread s)))
+
+    at : (x : Bool) → leb r 9 ≡ x → readAt true s (take r starts) (take r lens) ≡ read (parted s)
+    at true e = reads-pages s (take r starts) (take r lens) lie ∙ ap read (nine-or-fewer s starts₀ lens₀ starts lens r w (leb-true r 9 e))
+    at false e =
+        let h : 9 < r = leb-false r 9 e in
+        let k = length-take 10 (parted s) in
+        one true s (take r starts) (take r lens) 0 0 .1 (many (omega (arith, length-take r starts)), refl, refl) ∙ sym (many-read (parted s) (omega (arith, w .0)))
+
+-- ---- what is printed
+
+-- a length and a room in which just so much is printed
+abbrev pub Prints : List ℕ → List ℕ → List ℕ → ℕ → Type 0
+Prints out input out′ r = (r ≡ length (printed out input)) × (out′ ≡ laid out 0 (printed out input))
+
+-- what is printed is never longer than the room
+pub printed-fits : (out input : List ℕ) (r : ℕ) → r ≡ length (printed out input) → r ≤ length out
+unfolding printed planlist
+printed-fits out input r = at (leb listingRoom (length out)) refl
+  where
+    at : (b : Bool) → leb listingRoom (length out) ≡ b → r ≡ length (if b (answerLines (read (parted (take 12609 input)))) []) → r ≤ length out
+    at true e q = omega (arith, leb-true listingRoom (length out) e, answer-fits (parted (take 12609 input)))
+    at false e q = omega arith
+
+-- into too little room nothing
+pub none-printed : (out input : List ℕ) → length out < 25200 → Prints out input out 0
+unfolding printed
+none-printed out input h = rw (lt-leb listingRoom (length out) h) (refl, refl)
+
+-- the lines of a listing, of an answer that is a plan
+plan-lines : (a : Paper.Answer) (out out′ : List ℕ) (l : Listed) → Numbered a → Promised a out l out′ → numbersOf (l .answer) .number ≡ 0
+    → (l .length ≡ length (answerLines a)) × (out′ ≡ laid out 0 (answerLines a))
+plan-lines (Paper.refusal n k i) out out′ l g P z = let e : numbersOf (l .answer) .number ≡ n = ap (λ (t : Numbers). t .number) (P .answer-is) in absurd (omega arith)
+plan-lines (Paper.plan p) out out′ l g P z = (P .length-is, P .room-is)
+
+-- the lines of a refusal
+refusal-lines : (a : Paper.Answer) (out out′ : List ℕ) (l : Listed) → Promised a out l out′ → (numbersOf (l .answer) .number ≡ 0 → ⊥)
+    → (refusalLines (numbersOf (l .answer) .number) (numbersOf (l .answer) .page) (numbersOf (l .answer) .place) ≡ answerLines a) × (out′ ≡ out)
+refusal-lines (Paper.refusal n k i) out out′ l P h = (ap (λ (t : Numbers). refusalLines (t .number) (t .page) (t .place)) (P .answer-is), P .room-is)
+refusal-lines (Paper.plan p) out out′ l P h = absurd (h (ap (λ (t : Numbers). t .number) (P .answer-is)))
+
+module _ (out input out′ : List ℕ) (n : ℕ) (l : Listed) (room : 25200 ≤ length out) (counted : take n input ≡ take 12609 input) (P : Promised (read (parted (take n input))) out l out′) where
+  printed-is : printed out input ≡ answerLines (read (parted (take n input)))
+  unfolding printed planlist
+  printed-is = rw (le-leb listingRoom (length out) room, counted)
+
+  -- a listing
+  pub plan-printed : numbersOf (l .answer) .number ≡ 0 → Prints out input out′ (l .length)
+  plan-printed z =
+      let (a, b) = plan-lines (read (parted (take n input))) out out′ l (read-numbered (parted (take n input))) P z in
+      (a ∙ ap length (sym printed-is), b ∙ ap (laid out 0) (sym printed-is))
+
+  module _ (number page place : ℕ) (u : number ≡ numbersOf (l .answer) .number) (v : page ≡ numbersOf (l .answer) .page) (w : place ≡ numbersOf (l .answer) .place) (h : number ≡ 0 → ⊥) where
+    lines : (refusalLines number page place ≡ printed out input) × (out′ ≡ out)
+    lines = let (a, b) = refusal-lines (read (parted (take n input))) out out′ l P (λ z. h (u ∙ z)) in (rw (u, v, w) (a ∙ sym printed-is), b)
+
+    -- the refusal's lines fit
+    pub refusal-fits : length (refusalLines number page place) ≤ length out′
+    refusal-fits = let (a, b) = lines in rw (a, b) (printed-fits out input (length (printed out input)) refl)
+
+    -- a refusal
+    pub refusal-printed : (out″ : List ℕ) (r : ℕ) → (r ≡ length (refusalLines number page place)) × (out″ ≡ laid out′ 0 (refusalLines number page place)) → Prints out input out″ r
+    refusal-printed out″ r q = let (a, b) = lines in (q .0 ∙ ap length a, q .1 ∙ rw (a, b))

@@ -1,0 +1,190 @@
+//! `bench`: how long the proved library takes on the nine full pages of one plan, beside the bare parse of the same pages by XML libraries and one table
+//! look-up per byte. It prints the table of docs/BENCH.md. `bench WORK COUNT` does one of these COUNT times and prints nothing, for a profile.
+
+mod border;
+
+use std::hint::black_box;
+use std::time::{Duration, Instant};
+
+use border::{Call, Peer};
+use inputs::{case, Random};
+use second::class::CLASSES;
+
+/// How often each work is done; the quickest time counts. All works take turns, so that other work on the machine hits them alike.
+const ROUNDS: usize = 1_001;
+
+/// What is measured: its short name, its words, and what it does with the pages.
+struct Work<'a> {
+    name: &'static str,
+    words: &'static str,
+    run: Box<dyn FnMut() -> usize + 'a>,
+}
+
+/// The nine pages of the first generated plan whose pages all have 1,300 to 1,400 bytes.
+fn nine_full_pages() -> (u64, Vec<Vec<u8>>) {
+    let full = |pages: &[Vec<u8>]| {
+        pages.len() == 9
+            && pages
+                .iter()
+                .all(|page| (1_300..=1_400).contains(&page.len()))
+    };
+    (0..)
+        .map(|seed| (seed, case(seed)))
+        .find(|(_, case)| case.twin.is_some() && full(&case.pages))
+        .map(|(seed, case)| (seed, case.pages))
+        .expect("some seed gives such a plan")
+}
+
+fn look_up(pages: &[Vec<u8>]) -> usize {
+    let each = |page: &Vec<u8>| {
+        page.iter()
+            .map(|&byte| CLASSES[byte as usize] as usize)
+            .sum::<usize>()
+    };
+    pages.iter().map(each).sum()
+}
+
+/// Every work on these pages. Each is seen to answer rightly before it is measured.
+fn works<'a>(pages: &'a [Vec<u8>], call: &'a Call) -> Vec<Work<'a>> {
+    let views: Vec<&[u8]> = pages.iter().map(Vec::as_slice).collect();
+    let again = views.clone();
+    let peer = |parse: Peer| {
+        move || {
+            pages
+                .iter()
+                .map(|page| border::peer(parse, page))
+                .sum::<usize>()
+        }
+    };
+    let (mut reading, mut listing) = (border::Rooms::new(), border::Rooms::new());
+    let mut all: Vec<Work<'a>> = Vec::new();
+    let mut add =
+        |name, words, run: Box<dyn FnMut() -> usize + 'a>| all.push(Work { name, words, run });
+    add(
+        "look-up",
+        "one table look-up per byte, in Rust",
+        Box::new(|| look_up(pages)),
+    );
+    add(
+        "bytes",
+        "the first refused byte (refusal 3)",
+        Box::new(|| pages.iter().map(|page| border::first_refused(page)).sum()),
+    );
+    add(
+        "scan",
+        "the scan (refusal 4)",
+        Box::new(|| pages.iter().map(|page| border::scan(page)).sum()),
+    );
+    add(
+        "judge",
+        "each page judged (refusals 2 to 8)",
+        Box::new(|| pages.iter().map(|page| border::judge(page)).sum()),
+    );
+    add(
+        "read",
+        "**reading**: judged, joined, laid into rows and text",
+        Box::new(move || reading.read(call)),
+    );
+    add(
+        "list",
+        "**listing**: reading, and the lines of the plan",
+        Box::new(move || listing.list(call)),
+    );
+    add(
+        "second-read",
+        "the second program's reading, in Rust, unproved",
+        Box::new(move || second::read(&views).map_or(0, |plan| plan.rows.len())),
+    );
+    add(
+        "second-list",
+        "the second program's listing",
+        Box::new(move || second::read(&again).map_or(0, |plan| second::listing(&plan).len())),
+    );
+    add(
+        "pugixml",
+        "pugixml, bare parse",
+        Box::new(peer(border::peer_pugixml)),
+    );
+    add(
+        "expat",
+        "expat, bare parse",
+        Box::new(peer(border::peer_expat)),
+    );
+    add(
+        "libxml2",
+        "libxml2, bare parse",
+        Box::new(peer(border::peer_libxml2)),
+    );
+    all
+}
+
+/// Whether reading and listing, the second program's and every peer's answer are what they must be, so that no refusal is measured.
+fn right(works: &mut [Work], pages: &[Vec<u8>]) -> bool {
+    let views: Vec<&[u8]> = pages.iter().map(Vec::as_slice).collect();
+    let plan = second::read(&views).expect("the pages are a plan");
+    let (rows, lines) = (plan.rows.len(), second::listing(&plan).len());
+    works.iter_mut().all(|work| {
+        let answer = (work.run)();
+        match work.name {
+            "judge" => answer == 0,
+            "read" | "second-read" => answer == rows,
+            "list" | "second-list" => answer == lines,
+            "pugixml" | "expat" | "libxml2" => answer == pages.len(),
+            "scan" => answer == 2_000 * pages.len(),
+            "bytes" => answer == pages.iter().map(Vec::len).sum::<usize>(),
+            _ => true,
+        }
+    })
+}
+
+fn quickest(works: &mut [Work]) -> Vec<Duration> {
+    let mut least = vec![Duration::MAX; works.len()];
+    let mut random = Random::new(1);
+    for _ in 0..ROUNDS {
+        let first = random.below(works.len());
+        for step in 0..works.len() {
+            let at = (first + step) % works.len();
+            let start = Instant::now();
+            black_box((works[at].run)());
+            least[at] = least[at].min(start.elapsed());
+        }
+    }
+    least
+}
+
+fn main() {
+    let (seed, pages) = nine_full_pages();
+    let call = Call::new(&pages);
+    let mut works = works(&pages, &call);
+    assert!(right(&mut works, &pages), "a work gives a wrong answer");
+    let words: Vec<String> = std::env::args().skip(1).collect();
+    if let [name, count] = &words[..] {
+        let work = works.iter_mut().find(|work| work.name == name);
+        let work = work.expect("the name of a work");
+        for _ in 0..count.parse().expect("a number of times") {
+            black_box((work.run)());
+        }
+        return;
+    }
+    let bytes: usize = pages.iter().map(Vec::len).sum();
+    let times = quickest(&mut works);
+    let seconds = |name: &str| {
+        let at = works.iter().position(|work| work.name == name);
+        times[at.expect("the name of a work")].as_secs_f64()
+    };
+    println!(
+        "Nine pages, {bytes} bytes together (seed {seed}), the quickest of {ROUNDS} runs, {}:\n",
+        std::env::consts::ARCH
+    );
+    println!("| What | a byte | to one look-up | to pugixml |\n|---|---|---|---|");
+    for (work, time) in works.iter().zip(&times) {
+        let time = time.as_secs_f64();
+        println!(
+            "| {} | {:.2} ns | {:.1} | {:.2} |",
+            work.words,
+            time * 1e9 / bytes as f64,
+            time / seconds("look-up"),
+            time / seconds("pugixml"),
+        );
+    }
+}

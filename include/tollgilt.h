@@ -1,0 +1,108 @@
+/* tollgilt.h: the sheets of a German medication plan (BMP 2.7) joined and listed, for C programs. This header is the manual of the library's border.
+ *
+ * A sheet's barcode holds one page: 1 to 1,400 bytes of XML in Latin-1. One to nine pages make a plan. The library joins them by what they say, in
+ * whatever order they are handed in, and answers with a listing of the plan, or with a refusal that names the page and the place.
+ *
+ * Only numbers and byte ranges cross this border. The library has no state, allocates nothing, writes nothing but what is lent to it for writing, and
+ * calls nothing but the C library's memcpy, memmove, memset, memcmp and bcmp. It never fails in another way than by a refusal.
+ *
+ * To link it, hand the archive to the compiler behind your own files; it needs no other library:
+ *
+ *     tools/archive tollgilt
+ *     cc -Iinclude examples/list.c target/native/x86_64-unknown-linux-gnu/libtollgilt.a -o list
+ */
+#ifndef TOLLGILT_H
+#define TOLLGILT_H
+
+#include <stddef.h>
+#include <stdint.h>
+
+#ifdef __cplusplus
+extern "C" {
+#endif
+
+/* The sizes that the paper sets. */
+enum {
+    TOLLGILT_PAGES = 9,            /* the most pages that a call hands in */
+    TOLLGILT_PAGE_BYTES = 1400,    /* the most bytes of a page */
+    TOLLGILT_LISTING_ROOM = 25200  /* the room that a listing asks for: it is enough for any plan */
+};
+
+/* What a call answers: 0, or the number of a refusal. Beside each stands the page and the place that come with it. A page is counted from 1 in the
+ * order in which the pages were handed in; a place is the offset of a byte from the beginning of its page, the first byte being 0.
+ *
+ * Where several refusals would fit, the lowest of these steps counts: 1; then each page in the order handed in, for 2 to 8 the lowest number of that
+ * page, and of that number the lowest place; then 9, 10, 11, 12. */
+enum {
+    TOLLGILT_OK = 0,
+
+    /* 1: the number of pages is not 1 to 9; or starts and lens differ in their counts; or a page does not lie within the buffer; or the room is too
+     * small. Page 0, place 0. */
+    TOLLGILT_NO_ROOM = 1,
+
+    /* 2: the page is empty or has more than 1,400 bytes. Page; place 0. */
+    TOLLGILT_PAGE_SIZE = 2,
+
+    /* 3: a byte that is not allowed: allowed are 9, 10, 13, 32 to 126, 160 to 255. Page; place of the first such byte. */
+    TOLLGILT_BYTE_REFUSED = 3,
+
+    /* 4: the page is malformed. Page; length of its longest beginning that some well-formed page shares, which is the whole length of a page that
+     * only ends too early. */
+    TOLLGILT_MALFORMED = 4,
+
+    /* 5: an element is unknown, misplaced or one too many, or an attribute is unknown or there twice. Page; place of the element's '<'. */
+    TOLLGILT_OUT_OF_PLACE = 5,
+
+    /* 6: the edition MP.v is not 027, or absent. Page; place of the '<' of MP. */
+    TOLLGILT_OTHER_EDITION = 6,
+
+    /* 7: a value breaks the rule of its field, such as a date, a dose or a package number; or a is above z. Page; place of the element's '<'. */
+    TOLLGILT_BROKEN_VALUE = 7,
+
+    /* 8: two fields that exclude each other, a missing field or element, a without z or z without a. Page; place of the '<' of the element, of MP
+     * where P or A is missing. */
+    TOLLGILT_INCOMPLETE = 8,
+
+    /* 9: the head or the number of pages differs from the first page handed in, so that it is of another print. First such page; place 0. */
+    TOLLGILT_OTHER_HEAD = 9,
+
+    /* 10: a page number that an earlier page has. First such page; place 0. */
+    TOLLGILT_NUMBER_TWICE = 10,
+
+    /* 11: a page is missing. Its page number, the lowest where several are missing; place 0. */
+    TOLLGILT_NUMBER_MISSING = 11,
+
+    /* 12: the plan has more than 256 rows. Page 0, place 0. */
+    TOLLGILT_TOO_MANY_ROWS = 12
+};
+
+/* Lists the plan of some pages as key=value lines, each ended by byte 10, in Latin-1 like the pages, without a zero byte at the end.
+ *
+ *   buffer, size          the bytes that the pages lie in. They need not fill it, and may lie in any order.
+ *   starts, starts_count  for each page the offset of its first byte in the buffer.
+ *   lens, lens_count      for each page its number of bytes; as many as starts.
+ *   out, room             the room for the listing: at least TOLLGILT_LISTING_ROOM bytes, whatever the plan needs; less is refused with 1.
+ *   told                  three numbers: the length of the listing, and the page and the place of a refusal. All three are written by every call.
+ *
+ * Answers 0 and fills out with the listing: told is then { its length, 0, 0 }, and the room behind the listing is untouched. Or answers the number
+ * of a refusal: told is then { 0, page, place }, and all of out is untouched.
+ *
+ * Any numbers may stand in starts, lens and the counts: a page that does not lie within the buffer is refused with 1, also where a start and a length
+ * add up to more than a size_t holds. What the caller answers for are the pointers:
+ *
+ *   - Each pointer and its size name memory that is there, for reading or, at out and told, for writing.
+ *   - No pointer is NULL, also where its size is 0. Any other aligned address will do for a size of 0; nothing is read or written there.
+ *   - starts and lens are aligned as size_t, told as uint32_t.
+ *   - out and told overlap neither each other nor buffer, starts or lens. Those three are only read and may overlap.
+ *   - Until the call returns no other thread writes to any of this memory, and none reads out or told.
+ *
+ * Any number of threads may call at once, each with a room of its own. A call uses less than 256 KB of its thread's stack: as compiled today about 75
+ * KB, on x86-64 and on 64-bit Arm alike. */
+uint32_t tollgilt_list(const uint8_t *buffer, size_t size, const size_t *starts, size_t starts_count, const size_t *lens, size_t lens_count,
+                       uint8_t *out, size_t room, uint32_t told[3]);
+
+#ifdef __cplusplus
+}
+#endif
+
+#endif

@@ -1,0 +1,351 @@
+/* The border from C: every refusal with its page and place, sizes at and beyond each edge, empty slices, and what a call may touch.
+ *
+ * Each range is lent so that it ends where a page of memory ends that may not be touched at all. What the library only reads is lent read-only, and so
+ * is the room of a call that is refused; a read or write beside that ends the program. Last line: N passed, M failed. */
+#define _GNU_SOURCE
+#include <pthread.h>
+#include <stdarg.h>
+#include <stdio.h>
+#include <stdlib.h>
+#include <string.h>
+#include <sys/mman.h>
+#include <unistd.h>
+
+#include "tollgilt.h"
+
+static int passed, failed;
+
+static void fact(const char *name, int holds) {
+    if (holds) {
+        passed++;
+    } else {
+        failed++;
+        printf("FAILED: %s\n", name);
+    }
+}
+
+/* ---- lent memory ---- */
+
+struct range {
+    void *map;
+    size_t map_size;
+    uint8_t *bytes;
+};
+
+/* Memory of this size that ends at a page which nothing may touch, and begins behind another one. */
+static struct range lend(size_t size) {
+    size_t unit = (size_t)sysconf(_SC_PAGESIZE);
+    size_t inner = (size + unit - 1) / unit * unit;
+    struct range r = {0};
+    r.map_size = inner + 2 * unit;
+    r.map = mmap(NULL, r.map_size, PROT_NONE, MAP_PRIVATE | MAP_ANONYMOUS, -1, 0);
+    if (r.map == MAP_FAILED || (inner > 0 && mprotect((uint8_t *)r.map + unit, inner, PROT_READ | PROT_WRITE) != 0)) {
+        perror("memory");
+        exit(2);
+    }
+    r.bytes = (uint8_t *)r.map + unit + inner - size;
+    return r;
+}
+
+/* Lets the memory be read and no longer written. */
+static void seal(struct range r) {
+    size_t unit = (size_t)sysconf(_SC_PAGESIZE);
+    if (r.map_size > 2 * unit && mprotect((uint8_t *)r.map + unit, r.map_size - 2 * unit, PROT_READ) != 0) {
+        perror("memory");
+        exit(2);
+    }
+}
+
+static void give_back(struct range r) { munmap(r.map, r.map_size); }
+
+static struct range lend_copy(const void *bytes, size_t size) {
+    struct range r = lend(size);
+    if (size > 0)
+        memcpy(r.bytes, bytes, size);
+    seal(r);
+    return r;
+}
+
+/* ---- calls ---- */
+
+struct answer {
+    uint32_t number, told[3];
+    int rest_untouched;
+    uint8_t lines[TOLLGILT_LISTING_ROOM];
+};
+
+/* A call whose ranges are all lent as said above; `refused` says that its room is read-only too. The room holds `poison` before. */
+static struct answer call(const uint8_t *buffer, size_t size, const size_t *starts, size_t starts_count, const size_t *lens, size_t lens_count,
+                          size_t room, uint8_t poison, int refused) {
+    struct range b = lend_copy(buffer, size);
+    struct range s = lend_copy(starts, starts_count * sizeof *starts);
+    struct range l = lend_copy(lens, lens_count * sizeof *lens);
+    struct range o = lend(room);
+    struct range t = lend(3 * sizeof(uint32_t));
+    static struct answer a;
+    memset(o.bytes, poison, room);
+    memset(t.bytes, 0xA5, 3 * sizeof(uint32_t));
+    if (refused)
+        seal(o);
+    a.number = tollgilt_list(b.bytes, size, (const size_t *)(void *)s.bytes, starts_count, (const size_t *)(void *)l.bytes, lens_count, o.bytes, room,
+                             (uint32_t *)(void *)t.bytes);
+    memcpy(a.told, t.bytes, sizeof a.told);
+    size_t length = a.told[0] <= room ? a.told[0] : 0;
+    memcpy(a.lines, o.bytes, length <= sizeof a.lines ? length : 0);
+    a.rest_untouched = 1;
+    for (size_t i = length; i < room; i++)
+        a.rest_untouched &= o.bytes[i] == poison;
+    give_back(b), give_back(s), give_back(l), give_back(o), give_back(t);
+    return a;
+}
+
+/* The call is refused with these numbers, and its room is untouched. */
+static void refused_call(const char *name, const uint8_t *buffer, size_t size, const size_t *starts, size_t starts_count, const size_t *lens,
+                         size_t lens_count, size_t room, uint32_t number, uint32_t page, uint32_t place) {
+    struct answer a = call(buffer, size, starts, starts_count, lens, lens_count, room, 0xA5, 1);
+    int same = a.number == number && a.told[0] == 0 && a.told[1] == page && a.told[2] == place;
+    if (!same)
+        printf("%s: %u, page %u, place %u, length %u\n", name, (unsigned)a.number, (unsigned)a.told[1], (unsigned)a.told[2], (unsigned)a.told[0]);
+    fact(name, same && a.rest_untouched);
+}
+
+/* ---- sheets ---- */
+
+enum { MOST = 12 };
+
+/* Pages one behind the other. */
+struct sheets {
+    uint8_t buffer[MOST * 2000];
+    size_t size, count, starts[MOST], lens[MOST];
+};
+
+static void add_bytes(struct sheets *set, const void *bytes, size_t length) {
+    memcpy(set->buffer + set->size, bytes, length);
+    set->starts[set->count] = set->size;
+    set->lens[set->count++] = length;
+    set->size += length;
+}
+
+/* Adds page a of z of the plan of this person, with these bytes behind the head, and blanks behind it up to so many bytes. */
+static void add(struct sheets *set, const char *person, int a, int z, const char *rest, size_t filled) {
+    char page[2000];
+    int length = snprintf(page, sizeof page,
+                          "<MP v=\"027\" U=\"00112233445566778899AABBCCDDEEFF\" a=\"%d\" z=\"%d\"><P g=\"%s\" f=\"Kern\" b=\"19510704\"/>"
+                          "<A n=\"Praxis Holm\" t=\"2023-03-01T09:30:00\"/>%s</MP>",
+                          a, z, person, rest);
+    size_t whole = (size_t)length > filled ? (size_t)length : filled;
+    memset(page + length, ' ', whole - (size_t)length);
+    add_bytes(set, page, whole);
+}
+
+static void refused_sheets(const char *name, const struct sheets *set, uint32_t number, uint32_t page, uint32_t place) {
+    refused_call(name, set->buffer, set->size, set->starts, set->count, set->lens, set->count, TOLLGILT_LISTING_ROOM, number, page, place);
+}
+
+/* The sheets give these lines, in rooms of several sizes and contents, which are untouched behind the lines. */
+static void listed_sheets(const char *name, const struct sheets *set, const char *lines) {
+    static const size_t rooms[] = {TOLLGILT_LISTING_ROOM, TOLLGILT_LISTING_ROOM + 1, 3 * TOLLGILT_LISTING_ROOM};
+    for (size_t i = 0; i < 6; i++) {
+        struct answer a = call(set->buffer, set->size, set->starts, set->count, set->lens, set->count, rooms[i / 2], i % 2 ? 0xA5 : 0, 0);
+        int same = a.number == 0 && a.told[0] == strlen(lines) && a.told[1] == 0 && a.told[2] == 0 && memcmp(a.lines, lines, a.told[0]) == 0;
+        fact(name, same && a.rest_untouched);
+    }
+}
+
+#define HEAD_LINES \
+    "MP.v=027\nMP.U=00112233445566778899AABBCCDDEEFF\nMP.l=de-DE\nMP.P.g=Ida\nMP.P.f=Kern\nMP.P.b=19510704\nMP.A.n=Praxis Holm\nMP.A.t=2023-03-01T09:30:00\n"
+
+/* ---- the facts ---- */
+
+static void listings(void) {
+    static const char example[] =
+        "<MP v=\"027\" U=\"00112233445566778899AABBCCDDEEFF\"><P g=\"Ida\" f=\"Kern\" b=\"19510704\"/><A n=\"Praxis Holm\" t=\"2023-03-01T09:30:00\"/>"
+        "<S c=\"412\"><M v=\"0,5\" m='1' d=\"0\" p=\"02394428\"/></S></MP>";
+    struct sheets one = {0}, nine = {0}, back = {0}, spread = {0};
+    add_bytes(&one, example, sizeof example - 1);
+    listed_sheets("the paper's example", &one, HEAD_LINES "row=H\nMP.S.c=412\nrow=M\nMP.S.M.p=2394428\nMP.S.M.m=1\nMP.S.M.v=0,5\nrows=2\n");
+
+    char lines[1000] = HEAD_LINES;
+    for (int a = 1; a <= 9; a++) {
+        char row[50];
+        snprintf(row, sizeof row, "<S><X t=\"Zeile %d\"/></S>", a);
+        add(&nine, "Ida", a, 9, row, TOLLGILT_PAGE_BYTES);
+        snprintf(lines + strlen(lines), sizeof lines - strlen(lines), "row=X\nMP.S.X.t=Zeile %d\n", a);
+    }
+    strcat(lines, "rows=9\n");
+    fact("nine full pages fill the most that pages can", nine.size == 9 * TOLLGILT_PAGE_BYTES);
+    listed_sheets("nine full pages", &nine, lines);
+
+    back = nine;
+    for (int i = 0; i < 9; i++)
+        back.starts[i] = nine.starts[8 - i];
+    listed_sheets("nine full pages in the other order", &back, lines);
+
+    memset(spread.buffer, '<', sizeof spread.buffer);
+    for (int i = 0; i < 9; i++) {
+        spread.starts[i] = (size_t)(8 - i) * 1500 + 77;
+        spread.lens[i] = nine.lens[i];
+        memcpy(spread.buffer + spread.starts[i], nine.buffer + nine.starts[i], nine.lens[i]);
+    }
+    spread.count = 9, spread.size = 9 * 1500 + 100;
+    listed_sheets("pages that lie apart in their buffer, other bytes between them", &spread, lines);
+}
+
+static void refusals(void) {
+    struct sheets set = {0};
+    refused_sheets("1: no page", &set, 1, 0, 0);
+    for (int a = 1; a <= 9; a++)
+        add(&set, "Ida", a, 9, "", 0);
+    add(&set, "Ida", 9, 9, "", 0);
+    refused_sheets("1: ten pages", &set, 1, 0, 0);
+
+    set = (struct sheets){0}, add(&set, "Ida", 1, 2, "", 0), add_bytes(&set, "", 0);
+    refused_sheets("2: an empty page", &set, 2, 2, 0);
+    set = (struct sheets){0}, add(&set, "Ida", 1, 1, "", 1401);
+    refused_sheets("2: a page of 1,401 bytes", &set, 2, 1, 0);
+    set = (struct sheets){0}, add(&set, "Ida", 1, 2, "", 0), add(&set, "I\x80", 2, 2, "", 0);
+    refused_sheets("3: a byte that is not allowed", &set, 3, 2, 68);
+    set = (struct sheets){0}, add_bytes(&set, "<MP v='027'", 11);
+    refused_sheets("4: a page that ends too early", &set, 4, 1, 11);
+    set = (struct sheets){0}, add_bytes(&set, "<MP><P</MP>", 11);
+    refused_sheets("4: a page that is malformed", &set, 4, 1, 6);
+    set = (struct sheets){0}, add(&set, "Ida", 1, 1, "<S/><O/>", 0);
+    refused_sheets("5: an element behind a later one", &set, 5, 1, 143);
+    set = (struct sheets){0}, add_bytes(&set, " <MP v='026'/>", 14);
+    refused_sheets("6: another edition", &set, 6, 1, 1);
+    set = (struct sheets){0}, add(&set, "Ida", 1, 1, "<S><M p=\"2394429\"/></S>", 0);
+    refused_sheets("7: a wrong check digit", &set, 7, 1, 142);
+    set = (struct sheets){0}, add(&set, "Ida", 1, 1, "<S><M a=\"A\" m=\"0\" t=\"1\"/></S>", 0);
+    refused_sheets("8: two fields that exclude each other", &set, 8, 1, 142);
+    set = (struct sheets){0}, add(&set, "Ida", 1, 3, "", 0), add(&set, "Ida", 2, 3, "", 0), add(&set, "Eva", 3, 3, "", 0);
+    refused_sheets("9: a page of another person", &set, 9, 3, 0);
+    set = (struct sheets){0}, add(&set, "Ida", 2, 3, "", 0), add(&set, "Ida", 2, 3, "", 0);
+    refused_sheets("10: a page number twice", &set, 10, 2, 0);
+    set = (struct sheets){0}, add(&set, "Ida", 9, 9, "", 0), add(&set, "Ida", 1, 9, "", 0);
+    refused_sheets("11: pages missing", &set, 11, 2, 0);
+
+    char rows[1300] = "<S>";
+    for (int i = 0; i < 86; i++)
+        strcat(rows, "<X t=\"1\"/>");
+    strcat(rows, "</S>");
+    set = (struct sheets){0};
+    for (int a = 1; a <= 3; a++)
+        add(&set, "Ida", a, 3, rows, 0);
+    refused_sheets("12: 258 rows", &set, 12, 0, 0);
+}
+
+/* One page of 5 bytes, which would be refused with 6, and numbers at and beyond each edge. */
+static void numbers(void) {
+    static const uint8_t page[] = "<MP/>";
+    const size_t most = SIZE_MAX, half = SIZE_MAX / 2 + 1;
+    static const size_t zeros[300], fives[300] = {5, 5, 5, 5, 5, 5, 5, 5, 5, 5};
+    const struct {
+        const char *name;
+        size_t start, length;
+        uint32_t number, page, place;
+    } edges[] = {
+        {"the page is the buffer", 0, 5, 6, 1, 0},
+        {"one byte beyond the buffer", 1, 5, 1, 0, 0},
+        {"a length one beyond the buffer", 0, 6, 1, 0, 0},
+        {"an empty page at the end of the buffer", 5, 0, 2, 1, 0},
+        {"an empty page behind the buffer", 6, 0, 1, 0, 0},
+        {"an empty page at the largest start", most, 0, 1, 0, 0},
+        {"the largest start, length 1", most, 1, 1, 0, 0},
+        {"the largest start, and a sum of 4", most, 5, 1, 0, 0},
+        {"a start near the largest, and a sum of 0", most - 4, 5, 1, 0, 0},
+        {"the largest start and length", most, most, 1, 0, 0},
+        {"start 1 and the largest length", 1, most, 1, 0, 0},
+        {"start 5 and a sum of 5", 5, most, 1, 0, 0},
+        {"two halves, a sum of 0", half, half, 1, 0, 0},
+        {"two halves, a sum of 1", half + 1, half, 1, 0, 0},
+    };
+    for (size_t i = 0; i < sizeof edges / sizeof *edges; i++)
+        refused_call(edges[i].name, page, 5, &edges[i].start, 1, &edges[i].length, 1, TOLLGILT_LISTING_ROOM, edges[i].number, edges[i].page,
+                     edges[i].place);
+
+    size_t starts[2] = {0, 6}, lens[2] = {5, 5};
+    refused_call("a bad second page comes before a bad first one", page, 5, starts, 2, lens, 2, TOLLGILT_LISTING_ROOM, 1, 0, 0);
+    refused_call("two starts and one length", page, 5, zeros, 2, fives, 1, TOLLGILT_LISTING_ROOM, 1, 0, 0);
+    refused_call("one start and two lengths", page, 5, zeros, 1, fives, 2, TOLLGILT_LISTING_ROOM, 1, 0, 0);
+    refused_call("a start and no length", page, 5, zeros, 1, fives, 0, TOLLGILT_LISTING_ROOM, 1, 0, 0);
+    refused_call("no start and a length", page, 5, zeros, 0, fives, 1, TOLLGILT_LISTING_ROOM, 1, 0, 0);
+    refused_call("ten pages", page, 5, zeros, 10, fives, 10, TOLLGILT_LISTING_ROOM, 1, 0, 0);
+    refused_call("257 pages", page, 5, zeros, 257, zeros, 257, TOLLGILT_LISTING_ROOM, 1, 0, 0);
+    refused_call("the same bytes as nine pages", page, 5, zeros, 9, fives, 9, TOLLGILT_LISTING_ROOM, 6, 1, 0);
+    refused_call("a room one byte too small", page, 5, zeros, 1, fives, 1, TOLLGILT_LISTING_ROOM - 1, 1, 0, 0);
+    refused_call("a room of one byte", page, 5, zeros, 1, fives, 1, 1, 1, 0, 0);
+    refused_call("no room", page, 5, zeros, 1, fives, 1, 0, 1, 0, 0);
+}
+
+/* A room one byte too small for pages that are a plan. */
+static void small_rooms(void) {
+    struct sheets set = {0};
+    add(&set, "Ida", 1, 1, "", 0);
+    refused_call("a plan and a room one byte too small", set.buffer, set.size, set.starts, 1, set.lens, 1, TOLLGILT_LISTING_ROOM - 1, 1, 0, 0);
+    refused_call("a plan and no room", set.buffer, set.size, set.starts, 1, set.lens, 1, 0, 1, 0, 0);
+}
+
+/* Empty slices at addresses where there is no memory, as an empty Vec has them. */
+static void dangling(void) {
+    static uint8_t out[TOLLGILT_LISTING_ROOM];
+    uint8_t *no_bytes = (uint8_t *)(uintptr_t)1;
+    size_t *no_numbers = (size_t *)(uintptr_t)sizeof(size_t);
+    size_t zero = 0;
+    uint32_t told[3] = {7, 7, 7};
+    fact("nothing at all is refused with 1", tollgilt_list(no_bytes, 0, no_numbers, 0, no_numbers, 0, no_bytes, 0, told) == 1);
+    fact("its numbers are 0", told[0] == 0 && told[1] == 0 && told[2] == 0);
+    fact("no page in no buffer is refused with 1", tollgilt_list(no_bytes, 0, no_numbers, 0, no_numbers, 0, out, sizeof out, told) == 1);
+    fact("an empty page in no buffer is refused with 2", tollgilt_list(no_bytes, 0, &zero, 1, &zero, 1, out, sizeof out, told) == 2);
+    fact("it is page 1", told[0] == 0 && told[1] == 1 && told[2] == 0);
+}
+
+/* Where the person's name begins in a page that `add` makes. */
+enum { PERSON = 67 };
+
+enum { THREADS = 4, TIMES = 500 };
+
+static pthread_barrier_t together;
+
+/* Lists one plan again and again, beside the other threads, and gives how often the answer was right: the person, a digit, stands in it. */
+static void *lists(void *one) {
+    const struct sheets *set = one;
+    static const char line[] = "MP.P.g=";
+    uint8_t *out = malloc(TOLLGILT_LISTING_ROOM);
+    size_t right = 0;
+    pthread_barrier_wait(&together);
+    for (int i = 0; i < TIMES; i++) {
+        uint32_t told[3];
+        uint32_t number = tollgilt_list(set->buffer, set->size, set->starts, set->count, set->lens, set->count, out, TOLLGILT_LISTING_ROOM, told);
+        uint8_t *found = number == 0 ? memmem(out, told[0], line, strlen(line)) : NULL;
+        right += found != NULL && found[strlen(line)] == set->buffer[PERSON];
+    }
+    free(out);
+    return (void *)right;
+}
+
+static void threads(void) {
+    static struct sheets sets[THREADS];
+    pthread_t running[THREADS];
+    pthread_barrier_init(&together, NULL, THREADS);
+    for (int i = 0; i < THREADS; i++) {
+        char person[2] = {(char)('0' + i), 0};
+        add(&sets[i], person, 1, 1, "<S><X t=\"x\"/></S>", TOLLGILT_PAGE_BYTES);
+        pthread_create(&running[i], NULL, lists, &sets[i]);
+    }
+    for (int i = 0; i < THREADS; i++) {
+        void *right;
+        pthread_join(running[i], &right);
+        fact("a thread among others gets its own answers", (size_t)right == TIMES);
+    }
+}
+
+int main(void) {
+    listings();
+    refusals();
+    numbers();
+    small_rooms();
+    dangling();
+    threads();
+    printf("%d passed, %d failed\n", passed, failed);
+    return failed != 0;
+}
