@@ -1,0 +1,60 @@
+-- SoundLaws: what sound numbers promise: no first bad row, each record sound, and the plan that they show sound.
+-- Assumes nothing.
+use mathlib.Core.Path.{_≡_, refl, sym, ap, _∙_}
+use mathlib.Core.Bool.{Bool, true, false, _&&_}
+use mathlib.Core.Logic.{_↔_}
+use mathlib.Core.List.{List}
+use Prim.Native.Nat.{ℕ, zero, suc, _+_, _*_, _<_}
+use native.Mathlib.Nat.{le-of-suc-le-suc, not-suc-le-zero}
+use native.Mathlib.Omega.{arith}
+use lib.ListN.{take, drop}
+use lib.Seq.{drop-drop}
+use Rattle.paper.specs.Lists.{if, every}
+use Rattle.paper.specs.Writing.{soundHead, soundRow, sound}
+use Rattle.paper.proofs.Small.{both, no}
+use Rattle.plan.specs.Numbers.{recordAt, showHead, showRow, showRows, showPlan, headInText, fitRecord}
+use Rattle.plan.specs.declared.Plan.{Plan}
+use Rattle.sound.specs.Sound.{headSound, recordSound, recordsSound, firstBadIn, numbersSound}
+
+-- counted from 1 or above, no row is the first bad one just when all are sound
+none-bad : (t : List ℕ) (n k : ℕ) (rows : List ℕ) → (firstBadIn (suc k) t n rows ≡ 0) ↔ (recordsSound t n rows ≡ true)
+none-bad t zero k rows = (λ e. refl, λ e. refl)
+none-bad t (suc n) k rows = go (recordSound t (take 48 rows)) (none-bad t n (suc k) (drop 48 rows))
+  where
+    go : (b : Bool) → (firstBadIn (suc (suc k)) t n (drop 48 rows) ≡ 0) ↔ (recordsSound t n (drop 48 rows) ≡ true)
+        → (if b (firstBadIn (suc (suc k)) t n (drop 48 rows)) (suc k) ≡ 0) ↔ ((b && recordsSound t n (drop 48 rows)) ≡ true)
+    go true ih = ih
+    go false ih = (λ e. absurd (omega arith), λ e. no (sym e))
+
+-- no row is the first bad one just when all are sound
+pub no-bad-row : (t : List ℕ) (n : ℕ) (rows : List ℕ) → (firstBadIn 1 t n rows ≡ 0) ↔ (recordsSound t n rows ≡ true)
+no-bad-row t n rows = none-bad t n 0 rows
+
+-- each of sound records is sound
+pub each-sound : (t : List ℕ) (n : ℕ) (rows : List ℕ) (i : ℕ) → i < n → recordsSound t n rows ≡ true → recordSound t (recordAt rows i) ≡ true
+each-sound t zero rows i h e = absurd (not-suc-le-zero h)
+each-sound t (suc n) rows zero h e = both (recordSound t (take 48 rows)) (recordsSound t n (drop 48 rows)) e .0
+each-sound t (suc n) rows (suc i) h e =
+    let (a, b) = both (recordSound t (take 48 rows)) (recordsSound t n (drop 48 rows)) e in
+    let q : 48 + i * 48 ≡ suc i * 48 = omega arith in
+    ap (λ (l : List ℕ). recordSound t (take 48 l)) (sym (drop-drop (i * 48) 48 rows ∙ ap (λ (k : ℕ). drop k rows) q)) ∙ each-sound t n (drop 48 rows) i (le-of-suc-le-suc h) b
+
+row-shown : (t l : List ℕ) → recordSound t l ≡ true → soundRow (showRow t l) ≡ true
+unfolding recordSound
+row-shown t l e = both (fitRecord t l) (soundRow (showRow t l)) e .1
+
+rows-shown : (t : List ℕ) (n : ℕ) (rows : List ℕ) → recordsSound t n rows ≡ true → every soundRow (showRows t n rows) ≡ true
+rows-shown t zero rows e = refl
+rows-shown t (suc n) rows e =
+    let (a, b) = both (recordSound t (take 48 rows)) (recordsSound t n (drop 48 rows)) e in
+    rw (row-shown t (take 48 rows) a, rows-shown t n (drop 48 rows) b)
+
+head-shown : (t : List ℕ) (p : Plan) → headSound t p ≡ true → soundHead (showHead t p) ≡ true
+unfolding headSound
+head-shown t p e = both (headInText t p) (soundHead (showHead t p)) e .1
+
+-- the plan that sound numbers show is sound
+pub plan-sound : (t : List ℕ) (p : Plan) (rows : List ℕ) → numbersSound t p rows ≡ true → sound (showPlan t p rows) ≡ true
+plan-sound t p rows e =
+    let (a, b) = both (headSound t p) (recordsSound t (p .rows) rows) e in
+    rw (head-shown t p a, rows-shown t (p .rows) rows b)
