@@ -93,7 +93,7 @@ module _ (p : Span → Bool) where
 -- ---- the lines of the head
 
 -- the fields of P, A and O are parts of the table
-head-fields : (fieldsOf P ≡ fieldsFrom 6 8) × (fieldsOf A ≡ fieldsFrom 14 10) × (fieldsOf O ≡ fieldsFrom 24 7)
+pub head-fields : (fieldsOf P ≡ fieldsFrom 6 8) × (fieldsOf A ≡ fieldsFrom 14 10) × (fieldsOf O ≡ fieldsFrom 24 7)
 unfolding fieldsOf fieldsFrom
 head-fields = (refl, refl, refl)
 
@@ -116,7 +116,7 @@ unfolding fieldsOf fieldsFrom
 mp-is [] u l = ap (λ (r : List Line). line (bytes "MP.v") edition ∷ r) (two-only (path MP) (mpAt 0) (mpAt 1) (mpAt 2) (mpAt 3) u l)
 mp-is (c ∷ p) u l = ap (λ (r : List Line). line (bytes "MP.v") edition ∷ (line (bytes "MP.p") (c ∷ p) ∷ r)) (two-only (path MP) (mpAt 0) (mpAt 1) (mpAt 2) (mpAt 3) u l)
 
-two-first : (t : List ℕ) (ss : List Span) → 2 ≤ length ss → getD (shownAll t ss) 0 [] ∷ getD (shownAll t ss) 1 [] ∷ [] ≡ take 2 (shownAll t ss)
+pub two-first : (t : List ℕ) (ss : List Span) → 2 ≤ length ss → getD (shownAll t ss) 0 [] ∷ getD (shownAll t ss) 1 [] ∷ [] ≡ take 2 (shownAll t ss)
 two-first t [] h = absurd (omega arith)
 two-first t (s ∷ []) h = absurd (omega arith)
 two-first t (s ∷ r ∷ ss) h = refl

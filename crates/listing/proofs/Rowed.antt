@@ -47,7 +47,7 @@ spans-in-place rows i (suc n) j h =
     ∙ ap (λ (r : List Span). spanAt rows (spanPlace i j) ∷ r) (spans-in-place rows i n (suc j) (omega arith) ∙ ap (λ (k : ℕ). spansAt n k rows) e)
 
 module _ (p : Span → Bool) (l : List ℕ) where
-  each-span : (m j i : ℕ) → i < m → every p (spansIn m j l) ≡ true → p (spanIn l (j + i)) ≡ true
+  pub each-span : (m j i : ℕ) → i < m → every p (spansIn m j l) ≡ true → p (spanIn l (j + i)) ≡ true
   unfolding spansIn
   each-span zero j i h e = absurd (not-suc-le-zero h)
   each-span (suc m) j zero h e = let q : j + 0 ≡ j = omega arith in ap (λ (k : ℕ). p (spanIn l k)) q ∙ both (p (spanIn l j)) (every p (spansIn m (suc j) l)) e .0
@@ -105,7 +105,7 @@ behind-shown t l (suc m) (suc n) j h =
     rw (a, b) (behind-shown t l m n (suc j) (omega arith))
 
 -- the values of n spans of a record, from span j on
-part-of-row : (t rows : List ℕ) (i n j : ℕ) → j + n ≤ 19 → take n (drop j (shownAll t (spansOf (recordAt rows i)))) ≡ shownAll t (spansAt n (spanPlace i j) rows)
+pub part-of-row : (t rows : List ℕ) (i n j : ℕ) → j + n ≤ 19 → take n (drop j (shownAll t (spansOf (recordAt rows i)))) ≡ shownAll t (spansAt n (spanPlace i j) rows)
 part-of-row t rows i n j h =
     let z : 0 + j ≡ j = omega arith in
     ap (take n) (behind-shown t (recordAt rows i) 19 j 0 (omega arith) ∙ ap (λ (k : ℕ). shownAll t (spansIn (19 - j) k (recordAt rows i))) z)

@@ -8,6 +8,7 @@ pub mod ExtentLaws
 pub mod LaidLaws
 pub mod Numerals
 pub mod Decodes
+pub mod Plain
 pub mod Spells
 pub mod WalkLaws
 pub mod Walked

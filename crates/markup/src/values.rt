@@ -1,5 +1,6 @@
 // Values: what the bytes between two quotes stand for, and how a value is spelled on a fresh page.
 ghost use mathlib.Core.Path.{_≡_};
+ghost use mathlib.Core.Bool.{true};
 ghost use mathlib.Core.List.{_++_, _∷_, []};
 ghost use Prim.Native.Nat.{_<_, _≤_, _+_, _-_, _^_};
 ghost use lib.ListN.{length, getD, replicate};
@@ -233,9 +234,9 @@ fn put(out: &mut [u8], n: usize, blanks: usize, v: u8) -> usize
     n + blanks + 1
 }
 
-// Writes the value of the raw bytes from `from` to `to` into `out` from `at` on, and returns the place behind it. No other byte of `out` changes.
+// Writes the value of the raw bytes from `from` to `to` into `out` from `at` on, byte by byte, and returns the place behind it.
 // Trailing blanks are held back and so never written; a number that a value may not hold gives the byte 0, which no field takes.
-pub fn decode(page: &[u8], from: usize, to: usize, out: &mut [u8], at: usize) -> usize
+fn decode_each(page: &[u8], from: usize, to: usize, out: &mut [u8], at: usize) -> usize
     requires { ⌜ (from ≤ to) × (to ≤ length (now page)) × (at + (to - from) ≤ length (now out)) ⌝ }
     ensures { λ r. ⌜ (r ≡ at + length (Paper.value (slice from to (now (page .entry))))) × (r ≤ at + (to - from)) × (now (out .exit) ≡ laid (now (out .entry)) at (Paper.value (slice from to (now (page .entry))))) ⌝ }
 {
@@ -261,6 +262,45 @@ pub fn decode(page: &[u8], from: usize, to: usize, out: &mut [u8], at: usize) ->
         }
     }
     n
+}
+
+// Whether the raw bytes from `from` to `to` are surely their own value: no reference, no control byte, no blank at the end.
+fn plain(page: &[u8], from: usize, to: usize) -> bool
+    requires { ⌜ (from ≤ to) × (to ≤ length (now page)) ⌝ }
+    ensures { λ r. ⌜ (r ≡ true → Paper.value (slice from to (now (page .entry))) ≡ slice from to (now (page .entry))) ⌝ }
+{
+    if from == to {
+        return true;
+    }
+    let mut i = to - 1;
+    if page[i] < 33 {
+        return false;
+    }
+    if page[i] == 38 {
+        return false;
+    }
+    while i > from {
+        let j = i - 1;
+        if page[j] < 32 {
+            return false;
+        }
+        if page[j] == 38 {
+            return false;
+        }
+        i = j;
+    }
+    true
+}
+
+// Writes the value of the raw bytes from `from` to `to` into `out` from `at` on, and returns the place behind it. No other byte of `out` changes.
+pub fn decode(page: &[u8], from: usize, to: usize, out: &mut [u8], at: usize) -> usize
+    requires { ⌜ (from ≤ to) × (to ≤ length (now page)) × (at + (to - from) ≤ length (now out)) ⌝ }
+    ensures { λ r. ⌜ (r ≡ at + length (Paper.value (slice from to (now (page .entry))))) × (r ≤ at + (to - from)) × (now (out .exit) ≡ laid (now (out .entry)) at (Paper.value (slice from to (now (page .entry))))) ⌝ }
+{
+    if plain(page, from, to) {
+        return lay(out, at, &page[from..to]);
+    }
+    decode_each(page, from, to, out, at)
 }
 
 // How many bytes a byte of a value takes on a fresh page.

@@ -58,7 +58,7 @@ dose-shown t m d v h x wm wd wv wh wx =
     mine ∙ sym (by-tests (shown t m) (shown t d) (shown t v) (shown t h) (shown t x) ∙ rw (shows t m wm, shows t d wd, shows t v wv, shows t h wh, shows t x wx))
 
 -- what holds of every span of a record holds of each
-each-span : (p : Span → Bool) (n j : ℕ) (l : List ℕ) → every p (spansIn n j l) ≡ true → (k : ℕ) → k < n → p (spanIn l (j + k)) ≡ true
+pub each-span : (p : Span → Bool) (n j : ℕ) (l : List ℕ) → every p (spansIn n j l) ≡ true → (k : ℕ) → k < n → p (spanIn l (j + k)) ≡ true
 unfolding spansIn
 each-span p zero j l e k h = absurd (not-suc-le-zero h)
 each-span p (suc n) j l e zero h = let z : j + 0 ≡ j = omega arith in ap (λ (i : ℕ). p (spanIn l i)) z ∙ both (p (spanIn l j)) (every p (spansIn n (suc j) l)) e .0

@@ -8,7 +8,7 @@ ghost use Rattle.paper.specs.Calls.{inside, roomy};
 ghost use Rattle.reader.specs.Lent.{rowsLent};
 
 // Whether a page of that start and length lies in a buffer of so many bytes. No start and no length is too large to ask for.
-fn lies_in(size: usize, start: usize, len: usize) -> bool
+pub fn lies_in(size: usize, start: usize, len: usize) -> bool
     ensures { λ r. ⌜ r ≡ leb (start + len) size ⌝ }
 {
     if start > size {

@@ -86,7 +86,7 @@ fn same_spans(a: [Span; 27], b: [Span; 27]) -> bool
 }
 
 // Whether two pages have the same head. Both are laid into empty rooms: the heads are the same exactly if the patches, the spans and the rooms are.
-fn same_heads<'a>(a: &'a [u8], b: &'a [u8]) -> bool
+pub fn same_heads<'a>(a: &'a [u8], b: &'a [u8]) -> bool
     requires { ⌜ PageFits (now a) × PageFits (now b) ⌝ }
     ensures { λ r. ⌜ r ≡ sameHead (headFrom (tagsAt (now (b .entry)) 0)) (headFrom (tagsAt (now (a .entry)) 0)) ⌝ }
 {

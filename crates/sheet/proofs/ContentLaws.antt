@@ -471,6 +471,11 @@ pub no-row : (k : ℕ) (vs : Slots) → k < 10 → (k ≡ 6 → ⊥) → (k ≡ 
 unfolding givesRow
 no-row k vs h a b d e = rw (code-back k h, ne-eqb k 6 a, ne-eqb k 8 b, ne-eqb k 9 d, ne-eqb k 5 e)
 
+-- only an S gives a row by its values
+pub row-by-kind : (k : ℕ) (vs us : Slots) → k < 10 → (k ≡ 5 → ⊥) → givesRow (kindAt k) vs ≡ givesRow (kindAt k) us
+unfolding givesRow
+row-by-kind k vs us h e = rw (code-back k h, ne-eqb k 5 e)
+
 -- the two values of an S
 abbrev valueAt : List ℕ → List Raw → ℕ → List ℕ
 valueAt w rs j = value (slice (getD rs j noRaw .at) (getD rs j noRaw .end) w)

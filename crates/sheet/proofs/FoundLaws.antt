@@ -154,7 +154,7 @@ lie-put w [] j r h a b = tt
 lie-put w (x ∷ rs) zero r h a b = (a, b, h .2)
 lie-put w (x ∷ rs) (suc j) r h a b = (h .0, h .1, lie-put w rs j r (h .2) a b)
 
-lie-none : (w : List ℕ) (n : ℕ) → Lie w (replicate n noRaw)
+pub lie-none : (w : List ℕ) (n : ℕ) → Lie w (replicate n noRaw)
 lie-none w zero = tt
 lie-none w (suc n) = (omega arith, omega arith, lie-none w n)
 

@@ -45,6 +45,10 @@ pub record TagTold (w : List ℕ) (p e k : ℕ) (rs : List Raw) : Type 0 where
   pub few : is (kindAt k) M ≡ true → length (wsFrom (tagsAt w (p + 1))) ≤ 3
   pub fit : Fit (tagsAt w (p + 1))
 
+-- the kind of a tag, from its number
+pub kind-told : (x : Kind) (k : ℕ) → k ≡ code x → x ≡ kindAt k
+kind-told x k h = sym (ap kindAt h ∙ kind-back x)
+
 -- a sound tag has no attribute that is strange
 pub not-strange : {w : List ℕ} {at p e : ℕ} (B : Starts w at p e) (f : Fit (tagsAt w at)) (k : ℕ) → k ≡ code (kindNamed (slice (p + 1) e w)) → strange (kindAt k) (names (insideAt w e .attrs)) ≡ false
 not-strange {w} {at} {p} {e} B f k h =
@@ -54,16 +58,26 @@ not-strange {w} {at} {p} {e} B f k h =
 pub tag-told : {w : List ℕ} {at p e : ℕ} (B : Starts w at p e) (f : Fit (tagsAt w at)) (k : ℕ) → k ≡ code (kindNamed (slice (p + 1) e w)) → {rs : List Raw} → Tells w (kindAt k) rs (insideAt w e .attrs)
     → TagTold w p e k rs
 tag-told {w} {at} {p} {e} B f k h {rs} T =
-    let q : kindNamed (slice (p + 1) e w) ≡ kindAt k = sym (ap kindAt h ∙ kind-back (kindNamed (slice (p + 1) e w))) in
+    let q = kind-told (kindNamed (slice (p + 1) e w)) k h in
     let N : Next (kindAt k) (insideAt w e .attrs) (tagsAt w (p + 1)) = subst (λ (x : Kind). Next x (insideAt w e .attrs) (tagsAt w (p + 1))) q (fit-start B f) in
     record { kind-is = q; slots-are = sym (told-slots w (kindAt k) rs (insideAt w e .attrs) T); lie = T .lie; sound = N .sound; few = N .few; fit = N .fit }
 
+-- the rows from a start tag on, by its attributes
+module _ {w : List ℕ} {at p e : ℕ} (B : Starts w at p e) (k : ℕ) (q : kindNamed (slice (p + 1) e w) ≡ kindAt k) where
+  there : rowsFrom (tagsAt w at) ≡ rowOf (item (kindAt k) (slotsOf (fieldsOf (kindAt k)) (insideAt w e .attrs)) (wsFrom (tagsAt w (p + 1)))) ++ rowsFrom (tagsAt w (p + 1))
+  there = rows-start B ∙ ap (λ (x : Kind). rowOf (item x (slotsOf (fieldsOf x) (insideAt w e .attrs)) (wsFrom (tagsAt w (p + 1)))) ++ rowsFrom (tagsAt w (p + 1))) q
+
+  -- one row more than behind the tag
+  pub row-there : givesRow (kindAt k) (slotsOf (fieldsOf (kindAt k)) (insideAt w e .attrs)) ≡ true → length (rowsFrom (tagsAt w at)) ≡ suc (length (rowsFrom (tagsAt w (p + 1))))
+  row-there g = ap length (there ∙ ap (λ (l : List Row). l ++ rowsFrom (tagsAt w (p + 1))) (row-given (kindAt k) (slotsOf (fieldsOf (kindAt k)) (insideAt w e .attrs)) (wsFrom (tagsAt w (p + 1))) g))
+
+  -- no row more
+  pub no-row-there : givesRow (kindAt k) (slotsOf (fieldsOf (kindAt k)) (insideAt w e .attrs)) ≡ false → length (rowsFrom (tagsAt w at)) ≡ length (rowsFrom (tagsAt w (p + 1)))
+  no-row-there g = ap length (there ∙ ap (λ (l : List Row). l ++ rowsFrom (tagsAt w (p + 1))) (row-none (kindAt k) (slotsOf (fieldsOf (kindAt k)) (insideAt w e .attrs)) (wsFrom (tagsAt w (p + 1))) g))
+
 module _ {w : List ℕ} {at p e k : ℕ} {rs : List Raw} (B : Starts w at p e) (T : TagTold w p e k rs) where
   here : rowsFrom (tagsAt w at) ≡ rowOf (item (kindAt k) (told w (kindAt k) rs) (wsFrom (tagsAt w (p + 1)))) ++ rowsFrom (tagsAt w (p + 1))
-  here =
-      rows-start B
-      ∙ ap (λ (x : Kind). rowOf (item x (slotsOf (fieldsOf x) (insideAt w e .attrs)) (wsFrom (tagsAt w (p + 1)))) ++ rowsFrom (tagsAt w (p + 1))) (T .kind-is)
-      ∙ ap (λ (vs : Slots). rowOf (item (kindAt k) vs (wsFrom (tagsAt w (p + 1)))) ++ rowsFrom (tagsAt w (p + 1))) (T .slots-are)
+  here = there B k (T .kind-is) ∙ ap (λ (vs : Slots). rowOf (item (kindAt k) vs (wsFrom (tagsAt w (p + 1)))) ++ rowsFrom (tagsAt w (p + 1))) (T .slots-are)
 
   -- the tag gives a row
   pub row-here : givesRow (kindAt k) (told w (kindAt k) rs) ≡ true

@@ -1,20 +1,21 @@
 // What a page says, laid into lent text and numbers: its head, its number and its count, and its rows. A page comes here once it is judged to have no
 // fault. `scratch` is room for one value; what it then holds is of no meaning.
 ghost use mathlib.Core.Path.{_≡_};
-ghost use mathlib.Core.Bool.{true};
+ghost use mathlib.Core.Bool.{true, false};
 ghost use mathlib.Core.List.{[], _∷_};
 ghost use Prim.Native.Nat.{_+_, _*_, _-_, _≤_, _<_};
 ghost use lib.ListN.{length, getD};
 ghost use lib.Seq.{slice};
 ghost use Rattle.paper.specs.Lists.{bytes, concat, number};
 ghost use Rattle.paper.specs.Values.{value};
-ghost use Rattle.paper.specs.Fields.{code, MP, W, M};
-ghost use Rattle.paper.specs.Judging.{or};
+ghost use Rattle.paper.specs.Fields.{code, fieldsOf, MP, W, M};
+ghost use Rattle.paper.specs.Judging.{names, slotsOf, or};
 ghost use Rattle.paper.specs.Layout.{headValues, rowValues, rowsValues};
 ghost use Rattle.markup.specs.Laid.{laid};
 ghost use Rattle.markup.specs.Walk.{insideAt, tagsAt};
 ghost use Rattle.fields.specs.Places.{kindAt, countOf, fieldAt};
 ghost use Rattle.fields.specs.Columns.{keyColumn};
+ghost use Rattle.sheet.specs.Fold.{strange};
 ghost use Rattle.sheet.specs.Found.{Lie};
 ghost use Rattle.sheet.specs.Content.{kindNamed, attrsOfFirst, partFrom, wsFrom, rowsFrom, headFrom, contentOf};
 ghost use Rattle.plan.specs.Numbers.{kindNumber};
@@ -379,6 +380,21 @@ fn gives_row(page: &[u8], kind: u8, raws: [Raw; 16], scratch: &mut [u8]) -> bool
     m != 0
 }
 
+// The same, of the tag whose attributes begin at `at`. Only an S gives a row by its values, so only of an S are the attributes read.
+fn tag_gives_row(page: &[u8], at: usize, kind: u8, keys: &[u64; 52], scratch: &mut [u8]) -> bool
+    requires { ⌜ (at ≤ length (now page)) × (length (now page) ≤ 1400) × (length (now page) ≤ length (now scratch)) × (kind < 10) × (now keys ≡ keyColumn)
+        × (strange (kindAt kind) (names (insideAt (now page) at .attrs)) ≡ false) ⌝ }
+    ensures { λ r. ⌜ r ≡ givesRow (kindAt kind) (slotsOf (fieldsOf (kindAt kind)) (insideAt (now (page .entry)) at .attrs)) ⌝ }
+{
+    if kind == 5 {
+        let found = find(page, at, kind, keys);
+        let raws = found.raws;
+        return gives_row(page, kind, raws, scratch);
+    }
+    let none = [Raw { at: 0, end: 0 }; 16];
+    gives_row(page, kind, none, scratch)
+}
+
 // How many rows a page gives.
 pub fn count_rows(page: &[u8], scratch: &mut [u8]) -> u32
     requires { ⌜ (length (now page) ≤ 1400) × (length (now page) ≤ length (now scratch)) × Fit (tagsAt (now page) 0) ⌝ }
@@ -398,9 +414,7 @@ pub fn count_rows(page: &[u8], scratch: &mut [u8]) -> u32
             }
             Mark::Start { at: p, name_end } => {
                 let kind = kind_named(page, p + 1, name_end);
-                let found = find(page, name_end, kind, &keys);
-                let raws = found.raws;
-                if gives_row(page, kind, raws, scratch) {
+                if tag_gives_row(page, name_end, kind, &keys, scratch) {
                     count += 1;
                     at = p + 1;
                 } else {

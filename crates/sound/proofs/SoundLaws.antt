@@ -39,7 +39,8 @@ each-sound t (suc n) rows (suc i) h e =
     let q : 48 + i * 48 ≡ suc i * 48 = omega arith in
     ap (λ (l : List ℕ). recordSound t (take 48 l)) (sym (drop-drop (i * 48) 48 rows ∙ ap (λ (k : ℕ). drop k rows) q)) ∙ each-sound t n (drop 48 rows) i (le-of-suc-le-suc h) b
 
-row-shown : (t l : List ℕ) → recordSound t l ≡ true → soundRow (showRow t l) ≡ true
+-- a sound record shows a sound row
+pub row-shown : (t l : List ℕ) → recordSound t l ≡ true → soundRow (showRow t l) ≡ true
 unfolding recordSound
 row-shown t l e = both (fitRecord t l) (soundRow (showRow t l)) e .1
 
@@ -49,7 +50,8 @@ rows-shown t (suc n) rows e =
     let (a, b) = both (recordSound t (take 48 rows)) (recordsSound t n (drop 48 rows)) e in
     rw (row-shown t (take 48 rows) a, rows-shown t n (drop 48 rows) b)
 
-head-shown : (t : List ℕ) (p : Plan) → headSound t p ≡ true → soundHead (showHead t p) ≡ true
+-- a sound head in numbers shows a sound head
+pub head-shown : (t : List ℕ) (p : Plan) → headSound t p ≡ true → soundHead (showHead t p) ≡ true
 unfolding headSound
 head-shown t p e = both (headInText t p) (soundHead (showHead t p)) e .1
 

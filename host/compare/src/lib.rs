@@ -1,6 +1,7 @@
 //! The proved layers as safe Rust functions. A slice crosses the border as two arguments, its start and its length.
 
 pub mod rounds;
+pub mod trial;
 
 mod border {
     extern "C" {

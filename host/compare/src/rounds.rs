@@ -264,7 +264,7 @@ fn numbers_of(spans: &[Span]) -> impl Iterator<Item = u32> + '_ {
 }
 
 /// The patch, the number of rows, and the 27 spans of the head: U and l of MP, then P, A and O.
-fn head(numbers: &Numbers) -> Vec<u32> {
+pub(crate) fn head(numbers: &Numbers) -> Vec<u32> {
     let parts = &numbers.head.parts;
     let spans = [&parts[0][2..4], &parts[1], &parts[2], &parts[3]].concat();
     let first = [u32::from(numbers.head.patch), numbers.rows.len() as u32];
@@ -272,7 +272,7 @@ fn head(numbers: &Numbers) -> Vec<u32> {
 }
 
 /// A row's record: its kind, its package number, its spans, and 0 up to 48 numbers. The package number's field has no span.
-fn record(row: &RowNumbers) -> Vec<u32> {
+pub(crate) fn record(row: &RowNumbers) -> Vec<u32> {
     let (kind, own) = match row.kind {
         b'H' => (1, &row.parts[0][..]),
         b'M' => (2, &row.parts[1][1..]),

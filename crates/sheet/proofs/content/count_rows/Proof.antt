@@ -10,8 +10,8 @@ use Rattle.paper.specs.Plan.{Row}
 use Rattle.markup.specs.Walk.{tagsAt}
 use Rattle.sheet.specs.Content.{rowsFrom}
 use Rattle.sheet.specs.Laying.{Fit}
-use Rattle.sheet.proofs.ContentLaws.{Ends, Starts, ends, starts, nothing, fit-end, rows-none, rows-end}
-use Rattle.sheet.proofs.RowLaws.{TagTold, not-strange, tag-told, row-here, no-row-here}
+use Rattle.sheet.proofs.ContentLaws.{Ends, Starts, ends, starts, nothing, fit-end, fit-start, rows-none, rows-end}
+use Rattle.sheet.proofs.RowLaws.{kind-told, not-strange, row-there, no-row-there}
 use borrow.Author.Needs.{needs}
 use Rattle.sheet.proofs.content.count_rows.Statement.{statement}
 use Rattle.sheet.proofs.content.count_rows.Tie as tie
@@ -35,13 +35,6 @@ ended c = ends (c .mark .given .1) (c .before .before .next-tag .ensures)
 
 started : (c : tie.After-mark2 Inv-loop μ-loop) → Starts (c .before .before .before .before .before .before .before .args .page .now) (c .before .before .before .loop .at) (c .mark2 .given .0 .0) (c .mark2 .given .0 .1 .0)
 started c = starts (c .mark2 .given .1) (c .before .before .next-tag .ensures)
-
-tag : (c : tie.After-find Inv-loop μ-loop) → TagTold (c .before .before .before .before .before .before .before .before .before .before .before .args .page .now) (c .before .before .before .before .mark2 .given .0 .0) (c .before .before .before .before .mark2 .given .0 .1 .0) (c .before .before .kind-named .result) (c .find .result .raws)
-tag c =
-    let K = c .before .before in
-    let B = started (c .before .before .before .before) in
-    let f = c .before .before .before .before .before .before .before .loop .inv .fit in
-    tag-told B f (K .kind-named .result) (K .kind-named .ensures .0) (c .find .ensures .1 (c .find .ensures .0 ∙ not-strange B f (K .kind-named .result) (K .kind-named .ensures .0)) .1)
 
 keys-requires : tie.Need-keys-requires Inv-loop μ-loop
 keys-requires c κs = search needs
@@ -103,72 +96,70 @@ kind-named-requires c κs =
     let M = c .before in
     let E = started M in (omega arith, omega arith)
 
-find-requires : tie.Need-find-requires Inv-loop μ-loop
-find-requires c κs =
-    let K = c .before in
+tag-gives-row-requires : tie.Need-tag-gives-row-requires Inv-loop μ-loop
+tag-gives-row-requires c κs =
+    let K = c .before .before in
     let M = K .before .before in
-    let Y = M .before .before .before .before in
+    let L = M .before .before .before in
+    let Y = L .before in
     let S = Y .before .before .before in
-    let E = started M in (E .inner, S .pre .0, K .kind-named .ensures .1, Y .keys .ensures)
-
-gives-row-requires : tie.Need-gives-row-requires Inv-loop μ-loop
-gives-row-requires c κs =
-    let F = c .before .before in
-    let K = F .before .before in
-    let L = K .before .before .before .before .before in
-    let S = L .before .before .before .before in
-    (omega (arith, S .pre .1, L .loop .inv .lent), K .kind-named .ensures .1, tag F .lie)
+    let E = started M in (
+      E .inner,
+      S .pre .0,
+      omega (arith, S .pre .1, L .loop .inv .lent),
+      K .kind-named .ensures .1,
+      Y .keys .ensures,
+      not-strange E (L .loop .inv .fit) (K .kind-named .result) (K .kind-named .ensures .0),
+    )
 
 add-count : tie.Need-add-count Inv-loop μ-loop
 add-count c =
-    let M = c .before .before .before .before .before .before .before .before .before .before in
+    let M = c .before .before .before .before .before .before .before .before in
     let L = M .before .before .before in
     let S = L .before .before .before .before in
     let E = started M in omega (arith, L .loop .inv .low, S .pre .0)
 
 add-at-2 : tie.Need-add-at-2 Inv-loop μ-loop
 add-at-2 c =
-    let M = c .before .before .before .before .before .before .before .before .before .before in
+    let M = c .before .before .before .before .before .before .before .before in
     let E = started M in omega arith
 
 loop-less-2 : tie.Need-loop-less-2 Inv-loop μ-loop
 loop-less-2 c =
-    let M = c .before .before .before .before .before .before .before .before .before .before in
+    let M = c .before .before .before .before .before .before .before .before in
     let E = started M in omega arith
 
 loop-again-2 : tie.Need-loop-again-2 Inv-loop μ-loop
 loop-again-2 c =
     let G = c .before .before .before in
-    let F = G .before .before .before in
-    let M = F .before .before .before .before in
+    let K = G .before .before .before in
+    let M = K .before .before in
     let L = M .before .before .before in
     let E = started M in
-    let T = tag F in
     let i = L .loop .inv in
-    let e = ap length (row-here E T (sym (G .gives-row .ensures) ∙ c .if1 .taken)) in
-    record { inner = omega arith; low = omega (arith, i .low); lent = G .gives-row .kept .1 .1 .1 .0 ∙ i .lent; fit = T .fit; right = omega (arith, i .right, e) }
+    let e = row-there E (K .kind-named .result) (kind-told _ (K .kind-named .result) (K .kind-named .ensures .0)) (sym (G .tag-gives-row .ensures) ∙ c .if1 .taken) in
+    record { inner = omega arith; low = omega (arith, i .low); lent = G .tag-gives-row .kept .1 .1 .1 .1 .0 ∙ i .lent; fit = fit-start E (i .fit) .fit; right = omega (arith, i .right, e) }
 
 add-at-3 : tie.Need-add-at-3 Inv-loop μ-loop
 add-at-3 c =
-    let M = c .before .before .before .before .before .before .before .before .before .before in
+    let M = c .before .before .before .before .before .before .before .before in
     let E = started M in omega arith
 
 loop-less-3 : tie.Need-loop-less-3 Inv-loop μ-loop
 loop-less-3 c =
-    let M = c .before .before .before .before .before .before .before .before .before .before in
+    let M = c .before .before .before .before .before .before .before .before in
     let E = started M in omega arith
 
 loop-again-3 : tie.Need-loop-again-3 Inv-loop μ-loop
 loop-again-3 c =
     let G = c .before .before .before in
-    let F = G .before .before .before in
-    let M = F .before .before .before .before in
+    let K = G .before .before .before in
+    let M = K .before .before in
     let L = M .before .before .before in
     let E = started M in
-    let T = tag F in
     let i = L .loop .inv in
-    let e = ap length (no-row-here E T (sym (G .gives-row .ensures) ∙ c .if1 .left)) in
-    record { inner = omega arith; low = omega (arith, i .low); lent = G .gives-row .kept .1 .1 .1 .0 ∙ i .lent; fit = T .fit; right = omega (arith, i .right, e) }
+    let e = no-row-there E (K .kind-named .result) (kind-told _ (K .kind-named .result) (K .kind-named .ensures .0)) (sym (G .tag-gives-row .ensures) ∙ c .if1 .left) in
+    record { inner = omega arith; low = omega (arith, i .low); lent = G .tag-gives-row .kept .1 .1 .1 .1 .0 ∙ i .lent; fit = fit-start E (i .fit) .fit; right = omega (arith, i .right, e) }
 
 pub count-rows-spec : {M : Type 1} → statement M
 count-rows-spec =
@@ -189,8 +180,7 @@ count-rows-spec =
     enum-known-mark-2
     add-kind-named
     kind-named-requires
-    find-requires
-    gives-row-requires
+    tag-gives-row-requires
     add-count
     add-at-2
     loop-less-2

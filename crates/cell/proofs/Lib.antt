@@ -1,0 +1,7 @@
+-- The laws about a cell of numbers. What each file is for stands in its first line.
+pub mod Values
+pub mod Told
+pub mod Answers
+pub mod Promises
+pub mod Plans
+pub mod Worked

@@ -1,0 +1,360 @@
+// The text of a printed cell: the plan's own value, else the catalogue's text, as a part of the one or the other. Any rows, text, catalogue and numbers
+// may be handed in. specs/Numbered.antt says which cell of document 01 each call asks for.
+ghost use mathlib.Core.Path.{_≡_};
+ghost use mathlib.Core.List.{[]};
+ghost use Prim.Native.Nat.{_≤_};
+ghost use Rattle.paper.specs.Cells.{cutTo};
+ghost use Rattle.plan.specs.Numbers.{paperSpan, within};
+ghost use Rattle.cell.specs.Numbered.{fieldOf, rowThere, cellAt, textOf, isCut, isZero, isRefused};
+ghost use Rattle.cell.specs.Found.{noneFound, textFound, doseFound, timeOf, timeFound, freeFound, threeFound, fieldFound, isMedication, found};
+use plan::Dose;
+use plan::Kind;
+use plan::Plan;
+use plan::Row;
+use plan::Span;
+use plan::Times;
+use plan::row_at;
+
+// Which cell of a row is asked for: the number of a field, and for substance and strength which of three.
+pub struct Field {
+    pub number: u32,
+    pub which: usize,
+}
+
+impl Field {
+    // The numbers of the fields; any other number is a field that does not exist.
+    pub const NAME: u32 = 1;
+
+    pub const SUBSTANCE: u32 = 2;
+
+    pub const STRENGTH: u32 = 3;
+
+    pub const FORM: u32 = 4;
+
+    pub const MORNING: u32 = 5;
+
+    pub const MIDDAY: u32 = 6;
+
+    pub const EVENING: u32 = 7;
+
+    pub const NIGHT: u32 = 8;
+
+    pub const FREE_DOSE: u32 = 9;
+}
+
+// A cell as it is found in a plan's numbers: whether it is refused, the range of the plan's own value, the limit, and whether 0 is printed. A cell without
+// a limit is never cut and takes nothing from the catalogue. A refused cell has an absent value and no limit.
+pub struct Cell {
+    pub refused: bool,
+    pub own: Span,
+    pub limit: usize,
+    pub zero: bool,
+}
+
+impl Cell {
+    // The limits: the most bytes of a text that are shown without "...".
+    pub const NAME: usize = 50;
+
+    pub const SUBSTANCE: usize = 80;
+
+    pub const STRENGTH: usize = 15;
+
+    pub const FORM: usize = 7;
+    // No limit: dose cells are never cut.
+    pub const DOSE: usize = 0;
+    // The room that "..." takes of a cell that is cut.
+    pub const DOTS: usize = 3;
+}
+
+// The cell that is refused.
+fn none() -> Cell
+    ensures { λ r. ⌜ r ≡ noneFound ⌝ }
+{
+    let own = Span { at: 0, len: 0 };
+    Cell {
+        refused: true,
+        own: own,
+        limit: 0,
+        zero: false,
+    }
+}
+
+// A cell that shows a value or the catalogue's text, up to a limit.
+fn text_cell(own: Span, limit: usize) -> Cell
+    ensures { λ r. ⌜ r ≡ textFound own limit ⌝ }
+{
+    Cell {
+        refused: false,
+        own: own,
+        limit: limit,
+        zero: false,
+    }
+}
+
+// A cell that shows a dose.
+fn dose_cell(own: Span, zero: bool) -> Cell
+    ensures { λ r. ⌜ r ≡ doseFound own zero ⌝ }
+{
+    Cell {
+        refused: false,
+        own: own,
+        limit: Cell::DOSE,
+        zero: zero,
+    }
+}
+
+// The time of day of a field's number; the last for any number above the third's.
+fn time_of(x: Times, number: u32) -> Span
+    ensures { λ r. ⌜ r ≡ timeOf number x ⌝ }
+{
+    if number == Field::MORNING {
+        return x.morning;
+    }
+    if number == Field::MIDDAY {
+        return x.midday;
+    }
+    if number == Field::EVENING {
+        return x.evening;
+    }
+    x.night
+}
+
+// The cell of a time of day. An absent time is empty, with the mark that 0 is printed: another time is there, or the dose would not be a scheme.
+fn time_cell(dose: Dose, number: u32) -> Cell
+    ensures { λ r. ⌜ r ≡ timeFound (timeOf number) dose ⌝ }
+{
+    let untimed = Span { at: 0, len: 0 };
+    match dose {
+        Dose::Scheme(x) => {
+            let s = time_of(x, number);
+            dose_cell(s, s.len == 0)
+        }
+        Dose::Free(_) => dose_cell(untimed, false),
+        Dose::Unstated => dose_cell(untimed, false),
+    }
+}
+
+// The cell of a dose as free text.
+fn free_cell(dose: Dose) -> Cell
+    ensures { λ r. ⌜ r ≡ freeFound dose ⌝ }
+{
+    let absent = Span { at: 0, len: 0 };
+    match dose {
+        Dose::Scheme(_) => dose_cell(absent, false),
+        Dose::Free(s) => dose_cell(s, false),
+        Dose::Unstated => dose_cell(absent, false),
+    }
+}
+
+// The cell of one of three, whose values are every second text of a row from `first` on.
+fn three_cell(texts: [Span; 14], first: usize, which: usize, limit: usize) -> Cell
+    requires { ⌜ first ≤ 7 ⌝ }
+    ensures { λ r. ⌜ r ≡ threeFound texts first which limit ⌝ }
+{
+    if which < 1 {
+        return none();
+    }
+    if which > 3 {
+        return none();
+    }
+    text_cell(texts[first + 2 * which], limit)
+}
+
+// The cell of a medication's field. The texts of a row are a, f, fd and so on, w and s of its first W from 8 on; f, the form's code, is no text.
+fn field_cell(row: Row, f: Field) -> Cell
+    ensures { λ r. ⌜ r ≡ fieldFound row (fieldOf (f .number) (f .which)) ⌝ }
+{
+    let number = f.number;
+    let texts = row.texts;
+    let dose = row.dose;
+    if number == Field::NAME {
+        return text_cell(texts[0], Cell::NAME);
+    }
+    if number == Field::SUBSTANCE {
+        return three_cell(texts, 6, f.which, Cell::SUBSTANCE);
+    }
+    if number == Field::STRENGTH {
+        return three_cell(texts, 7, f.which, Cell::STRENGTH);
+    }
+    if number == Field::FORM {
+        return text_cell(texts[2], Cell::FORM);
+    }
+    if number == Field::MORNING {
+        return time_cell(dose, number);
+    }
+    if number == Field::MIDDAY {
+        return time_cell(dose, number);
+    }
+    if number == Field::EVENING {
+        return time_cell(dose, number);
+    }
+    if number == Field::NIGHT {
+        return time_cell(dose, number);
+    }
+    if number == Field::FREE_DOSE {
+        return free_cell(dose);
+    }
+    none()
+}
+
+// Whether a row is there: its number, counted from 1, is not above the row count, and its record lies in the lent rows.
+fn is_there(rows: &[u32], count: usize, row: usize) -> bool
+    ensures { λ r. ⌜ r ≡ rowThere (now (rows .entry)) count row ⌝ }
+{
+    if row < 1 {
+        return false;
+    }
+    if row > count {
+        return false;
+    }
+    row <= rows.len() / Plan::STRIDE
+}
+
+// Whether a row of that kind is a medication; no other row has cells.
+fn is_medication(kind: Kind) -> bool
+    ensures { λ r. ⌜ r ≡ isMedication kind ⌝ }
+{
+    match kind {
+        Kind::Heading => false,
+        Kind::Medication => true,
+        Kind::Recipe => false,
+        Kind::Note => false,
+        Kind::Unknown => false,
+    }
+}
+
+// A number of 32 bits as one of the machine's width.
+fn wide(x: u32) -> usize
+    ensures { λ r. ⌜ r ≡ x ⌝ }
+{
+    x as usize
+}
+
+// Whether a value is absent or lies in a text of so many bytes.
+fn lies_in(s: Span, size: usize) -> bool
+    ensures { λ r. ⌜ r ≡ within size (paperSpan s) ⌝ }
+{
+    if s.len == 0 {
+        return true;
+    }
+    wide(s.at) + wide(s.len) <= size
+}
+
+// The cell of a row's field, where the text has so many bytes.
+fn find(rows: &[u32], count: usize, size: usize, row: usize, field: u32, which: usize) -> Cell
+    ensures { λ r. ⌜ r ≡ found (now (rows .entry)) count size row (fieldOf field which) ⌝ }
+{
+    if !is_there(rows, count, row) {
+        return none();
+    }
+    let r = row_at(rows, row - 1);
+    let kind = r.kind;
+    if !is_medication(kind) {
+        return none();
+    }
+    let f = Field {
+        number: field,
+        which: which,
+    };
+    let c = field_cell(r, f);
+    let own = c.own;
+    if !lies_in(own, size) {
+        return none();
+    }
+    c
+}
+
+// A text, or its beginning where it is longer than the limit, with room left for "...".
+fn cut<'a>(t: &'a [u8], limit: usize) -> &'a [u8]
+    requires { ⌜ 3 ≤ limit ⌝ }
+    ensures { λ r. ⌜ now r ≡ textOf (cutTo limit (now (t .entry))) ⌝ }
+{
+    if t.len() <= limit {
+        return t;
+    }
+    &t[..limit - Cell::DOTS]
+}
+
+// The text that a cell shows: a part of the plan's text or of the catalogue. It is empty where there is none, and where the cell is refused.
+pub fn cell_text<'a>(
+    rows: &'a [u32],
+    count: usize,
+    text: &'a [u8],
+    catalogue: &'a [u8],
+    row: usize,
+    field: u32,
+    which: usize,
+) -> &'a [u8]
+    ensures { λ r. ⌜ now r ≡ textOf (cellAt (now (rows .entry)) count (now (text .entry)) (now (catalogue .entry)) row field which) ⌝ }
+{
+    let c = find(rows, count, text.len(), row, field, which);
+    let limit = c.limit;
+    let at = wide(c.own.at);
+    let len = wide(c.own.len);
+    if len == 0 {
+        if limit == Cell::DOSE {
+            return &text[..0];
+        }
+        return cut(catalogue, limit);
+    }
+    let own = &text[at..at + len];
+    if limit == Cell::DOSE {
+        return own;
+    }
+    cut(own, limit)
+}
+
+// Whether the cell is refused, with number 1: the row or the field does not exist, the row is no medication, the index is none of three, or the value asked
+// for points outside the text.
+pub fn cell_refused(
+    rows: &[u32],
+    count: usize,
+    text: &[u8],
+    row: usize,
+    field: u32,
+    which: usize,
+) -> bool
+    ensures { λ r. ⌜ r ≡ isRefused (cellAt (now (rows .entry)) count (now (text .entry)) [] row field which) ⌝ }
+{
+    let c = find(rows, count, text.len(), row, field, which);
+    c.refused
+}
+
+// Whether "..." follows the text: the text was longer than the limit. False where the cell is refused.
+pub fn cell_more<'a>(
+    rows: &'a [u32],
+    count: usize,
+    text: &'a [u8],
+    catalogue: &'a [u8],
+    row: usize,
+    field: u32,
+    which: usize,
+) -> bool
+    ensures { λ r. ⌜ r ≡ isCut (cellAt (now (rows .entry)) count (now (text .entry)) (now (catalogue .entry)) row field which) ⌝ }
+{
+    let c = find(rows, count, text.len(), row, field, which);
+    let limit = c.limit;
+    let len = wide(c.own.len);
+    if limit == Cell::DOSE {
+        return false;
+    }
+    if len == 0 {
+        return catalogue.len() > limit;
+    }
+    len > limit
+}
+
+// Whether 0 is printed: the time of day is absent, and another one is there. False where the cell is refused.
+pub fn cell_zero(
+    rows: &[u32],
+    count: usize,
+    text: &[u8],
+    row: usize,
+    field: u32,
+    which: usize,
+) -> bool
+    ensures { λ r. ⌜ r ≡ isZero (cellAt (now (rows .entry)) count (now (text .entry)) [] row field which) ⌝ }
+{
+    let c = find(rows, count, text.len(), row, field, which);
+    c.zero
+}

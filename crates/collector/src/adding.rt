@@ -1,0 +1,160 @@
+// A page added to a collector: judged, compared with its first page, and kept at its number's place.
+ghost use mathlib.Core.Path.{_≡_};
+ghost use Prim.Native.Nat.{_≤_};
+ghost use lib.ListN.{length};
+ghost use Rattle.paper.specs.Judging.{judge};
+ghost use Rattle.markup.specs.Walk.{tagsAt};
+ghost use Rattle.sheet.specs.Content.{contentOf};
+ghost use Rattle.reader.specs.Joining.{PageFits};
+ghost use Rattle.collector.specs.Keeping as Keeping;
+ghost use Rattle.collector.specs.Keeping.{agreesWith, agreesFirst, firstWith, takenIn, addedTo, addedCall};
+use crate::store::Collector;
+use crate::store::PageAt;
+use crate::store::page_at;
+use markup::values::lay;
+use markup::values::spells;
+use reader::answer::Answer as Refusal;
+use reader::answer::refused_page;
+use reader::call::lies_in;
+use reader::joining::same_heads;
+use sheet::content::count_said;
+use sheet::content::number_of;
+use sheet::judge::Verdict;
+use sheet::judge::judge_page;
+
+// What is answered to a page.
+pub enum Answer {
+    // The page is kept.
+    Added,
+    // The page is here already, with the same bytes.
+    AlreadyHere,
+    // The page is refused, and called page 1.
+    Refused(Refusal),
+}
+
+// The answer, and the collector afterwards.
+pub struct Adding {
+    pub answer: Answer,
+    pub collector: Collector,
+}
+
+// The answer to a page that is not added: the collector is as it was.
+fn unchanged(c: Collector, answer: Answer) -> Adding
+    ensures { λ r. ⌜ r ≡ Keeping.unchanged answer c ⌝ }
+{
+    Adding {
+        answer: answer,
+        collector: c,
+    }
+}
+
+// Whether a page without faults has the head and the count of another page; it has not, where that page has faults.
+fn agrees<'a>(first: &'a [u8], page: &'a [u8]) -> bool
+    requires { ⌜ PageFits (now page) ⌝ }
+    ensures { λ r. ⌜ r ≡ agreesWith (contentOf (tagsAt (now (page .entry)) 0)) (judge (now (first .entry))) ⌝ }
+{
+    let mut scratch = [0u8; 1400];
+    let verdict = judge_page(first, &mut scratch);
+    let Verdict::Fine = verdict else {
+        return false;
+    };
+    let x = count_said(first, &mut scratch);
+    let y = count_said(page, &mut scratch);
+    if y != x {
+        return false;
+    }
+    same_heads(first, page)
+}
+
+// Whether a page has the head and the count of the collector's first page, or there is none yet.
+fn agrees_first<'a>(pages: &'a [u8], lens: [u16; 9], first: u8, page: &'a [u8]) -> bool
+    requires { ⌜ (length (now pages) ≡ 12600) × PageFits (now page) ⌝ }
+    ensures { λ r. ⌜ r ≡ agreesFirst (now (pages .entry)) lens first (contentOf (tagsAt (now (page .entry)) 0)) ⌝ }
+{
+    let at = page_at(lens, first);
+    let PageAt::Here { start, len } = at else {
+        return true;
+    };
+    agrees(&pages[start..start + len], page)
+}
+
+// The number of the page that came first, once the page of number n is kept.
+fn first_with(lens: [u16; 9], first: u8, n: u8) -> u8
+    ensures { λ r. ⌜ r ≡ firstWith lens first n ⌝ }
+{
+    let at = page_at(lens, first);
+    let PageAt::Here { start: _, len: _ } = at else {
+        return n;
+    };
+    first
+}
+
+// A page without faults: refused with 9 against the first page, already here, refused with 10, or kept.
+fn take_in(c: Collector, page: &[u8]) -> Adding
+    requires { ⌜ PageFits (now page) × (1 ≤ contentOf (tagsAt (now page) 0) .no) ⌝ }
+    ensures { λ r. ⌜ r ≡ takenIn c (now (page .entry)) (contentOf (tagsAt (now (page .entry)) 0)) ⌝ }
+{
+    let mut pages = c.pages;
+    let mut lens = c.lens;
+    if !agrees_first(&pages, lens, c.first, page) {
+        return unchanged(c, Answer::Refused(Refusal::OtherHead(1)));
+    }
+    let mut scratch = [0u8; 1400];
+    let no = number_of(page, &mut scratch) as u8;
+    let of = count_said(page, &mut scratch) as u8;
+    let at = page_at(lens, no);
+    if let PageAt::Here { start, len } = at {
+        if spells(&pages, start, start + len, page) {
+            return unchanged(c, Answer::AlreadyHere);
+        }
+        return unchanged(c, Answer::Refused(Refusal::NumberTwice(1)));
+    }
+    let first = first_with(lens, c.first, no);
+    let i = no as usize - 1;
+    lay(&mut pages, i * Collector::PAGE, page);
+    lens[i] = page.len() as u16;
+    Adding {
+        answer: Answer::Added,
+        collector: Collector {
+            pages: pages,
+            lens: lens,
+            z: of,
+            first: first,
+        },
+    }
+}
+
+// Any bytes as a page: refused with 2 to 8 as judging says, else taken in.
+pub fn add_bytes(c: Collector, page: &[u8]) -> Adding
+    ensures { λ r. ⌜ r ≡ addedTo c (now (page .entry)) ⌝ }
+{
+    let mut scratch = [0u8; 1400];
+    let verdict = judge_page(page, &mut scratch);
+    if let Verdict::Refused { number, place } = verdict {
+        return unchanged(
+            c,
+            Answer::Refused(refused_page(number as u32, 1, place as u32)),
+        );
+    }
+    take_in(c, page)
+}
+
+// Adds a page of the buffer, from `start` on, `len` bytes long: added, already here, or refused with 1 (the page lies outside the buffer), 2 to 8, 9 or 10.
+// Only where it is added does the collector change.
+pub fn add(c: Collector, buffer: &[u8], start: usize, len: usize) -> Adding
+    ensures { λ r. ⌜ r ≡ addedCall c (now (buffer .entry)) start len ⌝ }
+{
+    if !lies_in(buffer.len(), start, len) {
+        return unchanged(c, Answer::Refused(Refusal::NoRoom));
+    }
+    add_bytes(c, &buffer[start..start + len])
+}
+
+// The same of a collector that is lent: it is then as `add` leaves it.
+pub fn add_page(c: &mut Collector, buffer: &[u8], start: usize, len: usize) -> Answer
+    ensures { λ r. ⌜ (r ≡ addedCall (now (c .entry)) (now (buffer .entry)) start len .answer) × (now (c .exit) ≡ addedCall (now (c .entry)) (now (buffer .entry)) start len .collector) ⌝ }
+{
+    let r = add(*c, buffer, start, len);
+    *c = r.collector;
+    r.answer
+}

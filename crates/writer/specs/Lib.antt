@@ -1,0 +1,6 @@
+-- What writing promises (Promise), with the numbers of its answer (Answers); the other definitions serve the code.
+pub mod Promise
+pub mod Answers
+pub mod Cutting
+pub mod Spelling
+pub mod Tags

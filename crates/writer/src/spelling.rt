@@ -1,0 +1,405 @@
+// Spelling: the rows, the head and the pages of a plan in numbers, spelled as document 01's fresh pages into the lent room. Each function returns the place
+// behind what it wrote, and all other bytes of the room stay.
+ghost use mathlib.Core.Path.{_≡_};
+ghost use mathlib.Core.Bool.{true, false};
+ghost use mathlib.Core.List.{[]};
+ghost use Prim.Native.Nat.{_+_, _*_, _-_, _≤_};
+ghost use lib.ListN.{length, drop};
+ghost use Rattle.paper.specs.Lists.{every};
+ghost use Rattle.paper.specs.Fields.{MP, S, is};
+ghost use Rattle.paper.specs.Writing.{closing, rowsText, page};
+ghost use Rattle.fields.specs.Columns.{keyColumn};
+ghost use Rattle.plan.specs.Numbers.{recordAt, showRow, showHead, inText, within};
+ghost use Rattle.plan.specs.Records.{paperKind, paperDose};
+ghost use Rattle.sound.specs.Sound.{headSound, recordSound, recordsSound};
+ghost use Rattle.listing.specs.Written.{Wrote};
+ghost use Rattle.listing.specs.Numbered.{spansAt};
+ghost use Rattle.writer.specs.Spelling.{rowText, headText, rowsBetween};
+ghost use Rattle.writer.specs.Tags.{doseText, doseWithin, substanceText, endText, medicationText, startText, measuresPart, gapText, placedText};
+use crate::tags::lay_field;
+use crate::tags::lay_fields;
+use crate::tags::lay_number;
+use crate::tags::lay_tag;
+use crate::tags::none_present;
+use fields::lookup::keys;
+use listing::elements::head_numbers;
+use markup::values::lay;
+use plan::Dose;
+use plan::Kind;
+use plan::Plan;
+use plan::dose_at;
+use plan::kind_at;
+use plan::package_at;
+
+// Places in the table: U of MP, and the first fields of P, A, O and S; of M a, the four times of day, the free text and du; the first fields of W, R and X.
+const MP_U: usize = 2;
+
+const P_G: usize = 6;
+
+const A_LANR: usize = 14;
+
+const O_AI: usize = 24;
+
+const S_C: usize = 31;
+
+const M_A: usize = 34;
+
+const M_M: usize = 37;
+
+const M_D: usize = 38;
+
+const M_V: usize = 39;
+
+const M_H: usize = 40;
+
+const M_T: usize = 41;
+
+const M_DU: usize = 42;
+
+const W_W: usize = 47;
+
+const R_T: usize = 49;
+
+const X_T: usize = 51;
+
+// Writes the attributes of a dose: the times of day that are present, or the free text, or nothing.
+fn lay_dose(out: &mut [u8], at: usize, keys: &[u64], dose: Dose, text: &[u8]) -> usize
+    requires { ⌜ (now keys ≡ keyColumn)
+        × (doseWithin (length (now text)) dose ≡ true)
+        × (at + length (doseText (paperDose (now text) dose)) ≤ length (now out)) ⌝ }
+    ensures { λ r. ⌜ Wrote (now (out .entry)) (now (out .exit)) at r (doseText (paperDose (now (text .entry)) dose)) ⌝ }
+{
+    match dose {
+        Dose::Scheme(x) => {
+            let morning = x.morning;
+            let midday = x.midday;
+            let evening = x.evening;
+            let night = x.night;
+            let a = lay_field(out, at, keys[M_M], text, morning);
+            let b = lay_field(out, a, keys[M_D], text, midday);
+            let c = lay_field(out, b, keys[M_V], text, evening);
+            lay_field(out, c, keys[M_H], text, night)
+        }
+        Dose::Free(s) => lay_field(out, at, keys[M_T], text, s),
+        Dose::Unstated => at,
+    }
+}
+
+// Writes a W whose two spans begin at place `from` of the rows; an absent one has nothing.
+fn lay_substance(
+    out: &mut [u8],
+    at: usize,
+    keys: &[u64],
+    rows: &[u32],
+    from: usize,
+    text: &[u8],
+) -> usize
+    requires { ⌜ (now keys ≡ keyColumn)
+        × (from + 4 ≤ length (now rows))
+        × (every (within (length (now text))) (spansAt 2 from (now rows)) ≡ true)
+        × (at + length (substanceText (now text) from (now rows)) ≤ length (now out)) ⌝ }
+    ensures { λ r. ⌜ Wrote (now (out .entry)) (now (out .exit)) at r (substanceText (now (text .entry)) from (now (rows .entry))) ⌝ }
+{
+    if rows[from + 1] == 0 {
+        return at;
+    }
+    lay_tag(out, at, b"<W", keys, W_W, 2, text, rows, from, b"/>")
+}
+
+// Writes how a medication ends whose first W begins at place `from` of the rows: `/>` without a W, else up to three W and the end tag.
+fn lay_end(out: &mut [u8], at: usize, keys: &[u64], rows: &[u32], from: usize, text: &[u8]) -> usize
+    requires { ⌜ (now keys ≡ keyColumn)
+        × (from + 12 ≤ length (now rows))
+        × (every (within (length (now text))) (spansAt 6 from (now rows)) ≡ true)
+        × (at + length (endText (now text) from (now rows)) ≤ length (now out)) ⌝ }
+    ensures { λ r. ⌜ Wrote (now (out .entry)) (now (out .exit)) at r (endText (now (text .entry)) from (now (rows .entry))) ⌝ }
+{
+    if rows[from + 1] == 0 {
+        return lay(out, at, b"/>");
+    }
+    out[at] = 62;
+    let a = lay_substance(out, at + 1, keys, rows, from, text);
+    let b = lay_substance(out, a, keys, rows, from + 4, text);
+    let c = lay_substance(out, b, keys, rows, from + 8, text);
+    lay(out, c, b"</M>")
+}
+
+// Writes the medication of row i: its package number, its fields before the dose, the dose, its fields behind it, and its W.
+fn lay_medication(
+    out: &mut [u8],
+    at: usize,
+    keys: &[u64],
+    rows: &[u32],
+    i: usize,
+    text: &[u8],
+) -> usize
+    requires { ⌜ (now keys ≡ keyColumn)
+        × ((i + 1) * 48 ≤ length (now rows))
+        × (inText (now text) (recordAt (now rows) i) ≡ true)
+        × (at + length (medicationText (now text) (now rows) i) ≤ length (now out)) ⌝ }
+    ensures { λ r. ⌜ Wrote (now (out .entry)) (now (out .exit)) at r (medicationText (now (text .entry)) (now (rows .entry)) i) ⌝ }
+{
+    let first = i * Plan::STRIDE + 2;
+    let behind = first + 16;
+    let substances = first + 26;
+    let a = lay(out, at, b"<M");
+    let number = package_at(rows, i);
+    let b = lay_number(out, a, number);
+    let c = lay_fields(out, b, keys, M_A, 3, text, rows, first);
+    let dose = dose_at(rows, i);
+    let d = lay_dose(out, c, keys, dose, text);
+    let e = lay_fields(out, d, keys, M_DU, 5, text, rows, behind);
+    lay_end(out, e, keys, rows, substances, text)
+}
+
+// Writes row i, whose kind is given: a heading's start tag, or the row whole.
+fn lay_kind(
+    out: &mut [u8],
+    at: usize,
+    keys: &[u64],
+    kind: Kind,
+    rows: &[u32],
+    i: usize,
+    text: &[u8],
+) -> usize
+    requires { ⌜ (now keys ≡ keyColumn)
+        × ((i + 1) * 48 ≤ length (now rows))
+        × (recordSound (now text) (recordAt (now rows) i) ≡ true)
+        × (paperKind kind ≡ showRow (now text) (recordAt (now rows) i) .kind)
+        × (at + length (rowText (showRow (now text) (recordAt (now rows) i))) ≤ length (now out)) ⌝ }
+    ensures { λ r. ⌜ Wrote (now (out .entry)) (now (out .exit)) at r (rowText (showRow (now (text .entry)) (recordAt (now (rows .entry)) i))) ⌝ }
+{
+    let k = i * Plan::STRIDE + 2;
+    match kind {
+        Kind::Heading => lay_tag(out, at, b"<S", keys, S_C, 2, text, rows, k, b">"),
+        Kind::Medication => lay_medication(out, at, keys, rows, i, text),
+        Kind::Recipe => lay_tag(out, at, b"<R", keys, R_T, 2, text, rows, k, b"/>"),
+        Kind::Note => lay_tag(out, at, b"<X", keys, X_T, 1, text, rows, k, b"/>"),
+        Kind::Unknown => at,
+    }
+}
+
+// Writes row i, counted from 0: a heading's start tag, or the row whole; returns the place behind it.
+pub fn lay_row(out: &mut [u8], at: usize, rows: &[u32], i: usize, text: &[u8]) -> usize
+    requires { ⌜ ((i + 1) * 48 ≤ length (now rows))
+        × (recordSound (now text) (recordAt (now rows) i) ≡ true)
+        × (at + length (rowText (showRow (now text) (recordAt (now rows) i))) ≤ length (now out)) ⌝ }
+    ensures { λ r. ⌜ Wrote (now (out .entry)) (now (out .exit)) at r (rowText (showRow (now (text .entry)) (recordAt (now (rows .entry)) i))) ⌝ }
+{
+    let keys = keys();
+    let kind = kind_at(rows, i);
+    lay_kind(out, at, &keys, kind, rows, i, text)
+}
+
+// Writes the start tag of MP on page a of z; the spans of U and l stand first among the numbers.
+fn lay_start(
+    out: &mut [u8],
+    at: usize,
+    keys: &[u64],
+    patch: u32,
+    a: u8,
+    z: u8,
+    text: &[u8],
+    numbers: &[u32],
+) -> usize
+    requires { ⌜ (now keys ≡ keyColumn)
+        × (a ≤ 9)
+        × (z ≤ 9)
+        × (4 ≤ length (now numbers))
+        × (every (within (length (now text))) (spansAt 2 0 (now numbers)) ≡ true)
+        × (at + length (startText patch a z (now text) (now numbers)) ≤ length (now out)) ⌝ }
+    ensures { λ r. ⌜ Wrote (now (out .entry)) (now (out .exit)) at r (startText patch a z (now (text .entry)) (now (numbers .entry))) ⌝ }
+{
+    let begun = lay(out, at, b"<MP v=\"027\"");
+    let patched = lay_number(out, begun, patch);
+    let named = lay_fields(out, patched, keys, MP_U, 2, text, numbers, 0);
+    let last = [
+        b' ',
+        b'a',
+        b'=',
+        b'"',
+        48 + a,
+        b'"',
+        b' ',
+        b'z',
+        b'=',
+        b'"',
+        48 + z,
+        b'"',
+        b'>',
+    ];
+    lay(out, named, &last)
+}
+
+// Writes O, whose spans begin at place `from` of the numbers, if it has a field.
+fn lay_measures(
+    out: &mut [u8],
+    at: usize,
+    keys: &[u64],
+    text: &[u8],
+    numbers: &[u32],
+    from: usize,
+) -> usize
+    requires { ⌜ (now keys ≡ keyColumn)
+        × (from + 14 ≤ length (now numbers))
+        × (every (within (length (now text))) (spansAt 7 from (now numbers)) ≡ true)
+        × (at + length (measuresPart (now text) from (now numbers)) ≤ length (now out)) ⌝ }
+    ensures { λ r. ⌜ Wrote (now (out .entry)) (now (out .exit)) at r (measuresPart (now (text .entry)) from (now (numbers .entry))) ⌝ }
+{
+    if none_present(numbers, from, 7) {
+        return at;
+    }
+    lay_tag(out, at, b"<O", keys, O_AI, 7, text, numbers, from, b"/>")
+}
+
+// Writes page a of z up to its rows, with the keys of the table.
+fn lay_front(
+    out: &mut [u8],
+    at: usize,
+    keys: &[u64],
+    plan: Plan,
+    a: u8,
+    z: u8,
+    text: &[u8],
+) -> usize
+    requires { ⌜ (now keys ≡ keyColumn)
+        × (headSound (now text) plan ≡ true)
+        × (a ≤ 9)
+        × (z ≤ 9)
+        × (at + length (headText (showHead (now text) plan) a z) ≤ length (now out)) ⌝ }
+    ensures { λ r. ⌜ Wrote (now (out .entry)) (now (out .exit)) at r (headText (showHead (now (text .entry)) plan) a z) ⌝ }
+{
+    let head = plan.head;
+    let numbers = head_numbers(head);
+    let p = lay_start(out, at, keys, plan.patch, a, z, text, &numbers);
+    let b = lay_tag(out, p, b"<P", keys, P_G, 8, text, &numbers, 4, b"/>");
+    let o = lay_tag(out, b, b"<A", keys, A_LANR, 10, text, &numbers, 20, b"/>");
+    lay_measures(out, o, keys, text, &numbers, 40)
+}
+
+// Writes page a of z up to its rows.
+pub fn lay_head(out: &mut [u8], at: usize, plan: Plan, a: u8, z: u8, text: &[u8]) -> usize
+    requires { ⌜ (headSound (now text) plan ≡ true)
+        × (a ≤ 9)
+        × (z ≤ 9)
+        × (at + length (headText (showHead (now text) plan) a z) ≤ length (now out)) ⌝ }
+    ensures { λ r. ⌜ Wrote (now (out .entry)) (now (out .exit)) at r (headText (showHead (now (text .entry)) plan) a z) ⌝ }
+{
+    let keys = keys();
+    lay_front(out, at, &keys, plan, a, z, text)
+}
+
+// Whether a row of this kind is a heading.
+fn heads(kind: Kind) -> bool
+    ensures { λ r. ⌜ r ≡ is (paperKind kind) S ⌝ }
+{
+    match kind {
+        Kind::Heading => true,
+        Kind::Medication => false,
+        Kind::Recipe => false,
+        Kind::Note => false,
+        Kind::Unknown => false,
+    }
+}
+
+// Writes what stands before a row: before a heading the end of the S that is open, before another row the start of an S if none is open.
+fn lay_gap(out: &mut [u8], at: usize, inside: bool, heading: bool) -> usize
+    requires { ⌜ at + length (gapText inside heading) ≤ length (now out) ⌝ }
+    ensures { λ r. ⌜ Wrote (now (out .entry)) (now (out .exit)) at r (gapText inside heading) ⌝ }
+{
+    if inside {
+        if heading {
+            return lay(out, at, b"</S>");
+        }
+        return at;
+    }
+    if heading {
+        return at;
+    }
+    lay(out, at, b"<S>")
+}
+
+// Writes row i on a page, behind what stands before it; `inside` says that an S is open.
+fn lay_placed(
+    out: &mut [u8],
+    at: usize,
+    keys: &[u64],
+    rows: &[u32],
+    i: usize,
+    inside: bool,
+    text: &[u8],
+) -> usize
+    requires { ⌜ (now keys ≡ keyColumn)
+        × ((i + 1) * 48 ≤ length (now rows))
+        × (recordSound (now text) (recordAt (now rows) i) ≡ true)
+        × (at + length (placedText inside (showRow (now text) (recordAt (now rows) i))) ≤ length (now out)) ⌝ }
+    ensures { λ r. ⌜ Wrote (now (out .entry)) (now (out .exit)) at r (placedText inside (showRow (now (text .entry)) (recordAt (now (rows .entry)) i))) ⌝ }
+{
+    let kind = kind_at(rows, i);
+    let heading = heads(kind);
+    let a = lay_gap(out, at, inside, heading);
+    lay_kind(out, a, keys, kind, rows, i, text)
+}
+
+// Writes the end of a page: of the S that is open, if one is, and of MP.
+fn lay_last(out: &mut [u8], at: usize, inside: bool) -> usize
+    requires { ⌜ at + length (rowsText inside [] (closing MP [])) ≤ length (now out) ⌝ }
+    ensures { λ r. ⌜ Wrote (now (out .entry)) (now (out .exit)) at r (rowsText inside [] (closing MP [])) ⌝ }
+{
+    if inside {
+        return lay(out, at, b"</S></MP>");
+    }
+    lay(out, at, b"</MP>")
+}
+
+// Writes the rows `from` up to `to` of a page, counted from 0, and the page's end.
+fn lay_rows(
+    out: &mut [u8],
+    at: usize,
+    keys: &[u64],
+    rows: &[u32],
+    from: usize,
+    to: usize,
+    text: &[u8],
+) -> usize
+    requires { ⌜ (now keys ≡ keyColumn)
+        × (from ≤ to)
+        × (to * 48 ≤ length (now rows))
+        × (recordsSound (now text) (to - from) (drop (from * 48) (now rows)) ≡ true)
+        × (at + length (rowsText false (rowsBetween (now text) (now rows) from to) (closing MP [])) ≤ length (now out)) ⌝ }
+    ensures { λ r. ⌜ Wrote (now (out .entry)) (now (out .exit)) at r (rowsText false (rowsBetween (now (text .entry)) (now (rows .entry)) from to) (closing MP [])) ⌝ }
+{
+    let mut a = at;
+    let mut i = from;
+    while i < to {
+        a = lay_placed(out, a, keys, rows, i, from < i, text);
+        i += 1;
+    }
+    lay_last(out, a, from < to)
+}
+
+// Writes page a of z with the rows `from` up to `to`, counted from 0.
+pub fn lay_page(
+    out: &mut [u8],
+    at: usize,
+    plan: Plan,
+    a: u8,
+    z: u8,
+    rows: &[u32],
+    from: usize,
+    to: usize,
+    text: &[u8],
+) -> usize
+    requires { ⌜ (headSound (now text) plan ≡ true)
+        × (a ≤ 9)
+        × (z ≤ 9)
+        × (from ≤ to)
+        × (to * 48 ≤ length (now rows))
+        × (recordsSound (now text) (to - from) (drop (from * 48) (now rows)) ≡ true)
+        × (at + length (page (showHead (now text) plan) (rowsBetween (now text) (now rows) from to) a z) ≤ length (now out)) ⌝ }
+    ensures { λ r. ⌜ Wrote (now (out .entry)) (now (out .exit)) at r (page (showHead (now (text .entry)) plan) (rowsBetween (now (text .entry)) (now (rows .entry)) from to) a z) ⌝ }
+{
+    let keys = keys();
+    let b = lay_front(out, at, &keys, plan, a, z, text);
+    lay_rows(out, b, &keys, rows, from, to, text)
+}

@@ -1,0 +1,124 @@
+// Writing: a plan in numbers to its fresh pages in a lent room.
+ghost use mathlib.Core.Path.{_≡_};
+ghost use mathlib.Core.Bool.{true};
+ghost use mathlib.Core.List.{map};
+ghost use Prim.Native.Nat.{_*_, _≤_};
+ghost use lib.ListN.{length, take, replicate};
+ghost use Rattle.paper.specs.Lists.{concat};
+ghost use Rattle.paper.specs.Writing.{pages};
+ghost use Rattle.markup.specs.Laid.{laid};
+ghost use Rattle.plan.specs.Numbers.{showHead, padded};
+ghost use Rattle.sound.specs.Sound.{headSound, recordsSound};
+ghost use Rattle.writer.specs.Cutting.{Rising, parted};
+ghost use Rattle.writer.specs.Promise.{Promised, answered, callFits, rowsLent};
+use crate::answer::Outcome;
+use crate::cut::PAGE;
+use crate::cut::cut_rows;
+use crate::measure::head_size;
+use crate::measure::row_measures;
+use crate::spelling::lay_page;
+use plan::Plan;
+use sound::first_bad;
+use sound::head_sound;
+
+// What writing gives: the answer, the number of pages, and the length of each. A refusal has no pages; lengths of pages that are not there are 0.
+pub struct Writing {
+    pub answer: Outcome,
+    pub pages: u32,
+    pub lens: [u32; 9],
+}
+
+// The least room for pages, in bytes.
+const PAGE_ROOM: usize = 12600;
+
+// Whether the room is enough, and the rows counted are at most 256 and at most those lent. Rows and room are given as slice lengths.
+fn call_fits(count: usize, rows: usize, room: usize) -> bool
+    ensures { λ r. ⌜ r ≡ callFits count (rowsLent rows) room ⌝ }
+{
+    if room < PAGE_ROOM {
+        return false;
+    }
+    if count > Plan::ROWS {
+        return false;
+    }
+    count <= rows / Plan::STRIDE
+}
+
+// A refusal: no pages.
+fn refusal(answer: Outcome) -> Writing
+    ensures { λ r. ⌜ (r .answer ≡ answer) × ((r .pages ≡ 0) × (r .lens ≡ replicate 9 0)) ⌝ }
+{
+    Writing {
+        answer: answer,
+        pages: 0,
+        lens: [0u32; 9],
+    }
+}
+
+// Lays z pages one behind the other, from the room's beginning on, and gives their lengths. Page k has the rows up to ends[k], and none that an earlier one has.
+fn lay_pages(
+    out: &mut [u8],
+    plan: Plan,
+    rows: &[u32],
+    n: usize,
+    ends: [usize; 9],
+    z: usize,
+    text: &[u8],
+) -> [u32; 9]
+    requires { ⌜ (headSound (now text) plan ≡ true) × (n * 48 ≤ length (now rows)) × (recordsSound (now text) n (now rows) ≡ true) × (z ≤ 9)
+        × Rising 0 (take z ends) n
+        × (length (concat (pages (showHead (now text) plan) z 1 (parted (now text) (now rows) 0 (take z ends)))) ≤ 12600) × (12600 ≤ length (now out)) ⌝ }
+    ensures { λ r. ⌜ (r ≡ padded 9 0 (map length (pages (showHead (now (text .entry)) plan) z 1 (parted (now (text .entry)) (now (rows .entry)) 0 (take z ends)))))
+        × (now (out .exit) ≡ laid (now (out .entry)) 0 (concat (pages (showHead (now (text .entry)) plan) z 1 (parted (now (text .entry)) (now (rows .entry)) 0 (take z ends))))) ⌝ }
+{
+    let mut lens = [0u32; 9];
+    let mut at = 0;
+    let mut from = 0;
+    let mut k = 0;
+    while k < z {
+        let to = ends[k];
+        let e = lay_page(out, at, plan, k as u8 + 1, z as u8, rows, from, to, text);
+        lens[k] = (e - at) as u32;
+        at = e;
+        from = to;
+        k += 1;
+    }
+    lens
+}
+
+// Writes the plan that the numbers show as fresh pages into `out`. Refusals in document 01's order: the call (1), numbers that are not sound (13), a plan that
+// nine pages do not take (14). Only where all pass is the room written. Any call may be made: nothing is required of it.
+pub fn write(plan: Plan, rows: &[u32], text: &[u8], out: &mut [u8]) -> Writing
+    ensures { λ r. ⌜ Promised (answered (now (out .entry)) plan (now (rows .entry)) (now (text .entry))) (now (out .entry)) r (now (out .exit)) ⌝ }
+{
+    let n = plan.rows as usize;
+    if !call_fits(n, rows.len(), out.len()) {
+        return refusal(Outcome::NoRoom);
+    }
+    if !head_sound(plan, text) {
+        return refusal(Outcome::Unsound(0));
+    }
+    let bad = first_bad(rows, n, text);
+    if bad != 0 {
+        return refusal(Outcome::Unsound(bad as u32));
+    }
+    let mut scratch = [0u8; 8192];
+    let base = head_size(plan, rows, text, &mut scratch);
+    if base > PAGE {
+        return refusal(Outcome::TooLong(0));
+    }
+    let measures = row_measures(rows, n, text, &mut scratch);
+    let cut = cut_rows(base, measures, n);
+    let place = cut.place;
+    if place != 0 {
+        return refusal(Outcome::TooLong(place as u32));
+    }
+    let ends = cut.ends;
+    let z = cut.pages;
+    let lens = lay_pages(out, plan, rows, n, ends, z, text);
+    Writing {
+        answer: Outcome::Pages,
+        pages: z as u32,
+        lens: lens,
+    }
+}
