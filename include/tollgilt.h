@@ -1,7 +1,8 @@
-/* tollgilt.h: the sheets of a German medication plan (BMP 2.7) joined and listed, for C programs. This header is the manual of the library's border.
+/* tollgilt.h: the sheets of a German medication plan (BMP 2.7) joined, listed and written afresh, for C programs. This header is the manual of the
+ * library's border.
  *
  * A sheet's barcode holds one page: 1 to 1,400 bytes of XML in Latin-1. One to nine pages make a plan. The library joins them by what they say, in
- * whatever order they are handed in, and answers with a listing of the plan, or with a refusal that names the page and the place.
+ * whatever order they are handed in, and answers with a listing of the plan or with fresh pages, or with a refusal that names the page and the place.
  *
  * Only numbers and byte ranges cross this border. The library has no state, allocates nothing, writes nothing but what is lent to it for writing, and
  * calls nothing but the C library's memcpy, memmove, memset, memcmp and bcmp. It never fails in another way than by a refusal.
@@ -25,14 +26,15 @@ extern "C" {
 enum {
     TOLLGILT_PAGES = 9,            /* the most pages that a call hands in */
     TOLLGILT_PAGE_BYTES = 1400,    /* the most bytes of a page */
-    TOLLGILT_LISTING_ROOM = 25200  /* the room that a listing asks for: it is enough for any plan */
+    TOLLGILT_LISTING_ROOM = 25200, /* the room that a listing asks for: it is enough for any plan */
+    TOLLGILT_PAGE_ROOM = 12600     /* the room that fresh pages ask for: it is enough for nine full ones */
 };
 
 /* What a call answers: 0, or the number of a refusal. Beside each stands the page and the place that come with it. A page is counted from 1 in the
  * order in which the pages were handed in; a place is the offset of a byte from the beginning of its page, the first byte being 0.
  *
  * Where several refusals would fit, the lowest of these steps counts: 1; then each page in the order handed in, for 2 to 8 the lowest number of that
- * page, and of that number the lowest place; then 9, 10, 11, 12. */
+ * page, and of that number the lowest place; then 9, 10, 11, 12, 14. (13 is for plans that were not read from pages; it does not occur here.) */
 enum {
     TOLLGILT_OK = 0,
 
@@ -73,7 +75,11 @@ enum {
     TOLLGILT_NUMBER_MISSING = 11,
 
     /* 12: the plan has more than 256 rows. Page 0, place 0. */
-    TOLLGILT_TOO_MANY_ROWS = 12
+    TOLLGILT_TOO_MANY_ROWS = 12,
+
+    /* 14, by tollgilt_fresh alone: the plan does not fit on nine fresh pages, which spell some values longer than the pages read. Page 0; place is the
+     * first row, counted from 1, up to which the rows do not fit, or 0 where the head alone is too long. */
+    TOLLGILT_NO_CUT = 14
 };
 
 /* Lists the plan of some pages as key=value lines, each ended by byte 10, in Latin-1 like the pages, without a zero byte at the end.
@@ -96,10 +102,23 @@ enum {
  *   - out and told overlap neither each other nor buffer, starts or lens. Those three are only read and may overlap.
  *   - Until the call returns no other thread writes to any of this memory, and none reads out or told.
  *
- * Any number of threads may call at once, each with a room of its own. A call uses less than 256 KB of its thread's stack: as compiled today about 75
+ * Any number of threads may call at once, each with a room of its own. A call uses less than 256 KB of its thread's stack: as compiled today about 85
  * KB, on x86-64 and on 64-bit Arm alike. */
 uint32_t tollgilt_list(const uint8_t *buffer, size_t size, const size_t *starts, size_t starts_count, const size_t *lens, size_t lens_count,
                        uint8_t *out, size_t room, uint32_t told[3]);
+
+/* Writes the plan of some pages as fresh pages: one spelling for each plan, as few pages as can hold it, each as full as its rows allow. Two sets of pages
+ * give the same fresh pages exactly when they are the same plan; and fresh pages, handed in again, give themselves.
+ *
+ *   buffer, size, starts, starts_count, lens, lens_count   as for tollgilt_list.
+ *   out, room   the room for the pages: at least TOLLGILT_PAGE_ROOM bytes, whatever the plan needs; less is refused with 1.
+ *   told        twelve numbers: how many pages there are, the page and the place of a refusal, and the lengths of nine pages. All are written by every call.
+ *
+ * Answers 0 and lays the pages into out one behind the other, from its beginning on: told is then { count, 0, 0, their lengths }, with 0 for each length
+ * behind the last page, and the room behind the pages is untouched. Or answers the number of a refusal: told is then { 0, page, place, nine times 0 }, and
+ * all of out is untouched. The caller answers for the pointers, and a call uses the stack, as for tollgilt_list. */
+uint32_t tollgilt_fresh(const uint8_t *buffer, size_t size, const size_t *starts, size_t starts_count, const size_t *lens, size_t lens_count,
+                        uint8_t *out, size_t room, uint32_t told[12]);
 
 #ifdef __cplusplus
 }

@@ -68,30 +68,54 @@ static struct range lend_copy(const void *bytes, size_t size) {
 
 /* ---- calls ---- */
 
-struct answer {
-    uint32_t number, told[3];
-    int rest_untouched;
-    uint8_t lines[TOLLGILT_LISTING_ROOM];
+/* A function of the border: what is said of its answer, the room that it asks for, and how many numbers it tells, of which the second and third are the
+ * page and the place of a refusal. */
+struct function {
+    const char *name;
+    uint32_t (*call)(const uint8_t *, size_t, const size_t *, size_t, const size_t *, size_t, uint8_t *, size_t, uint32_t *);
+    size_t room, told;
 };
 
+enum { LIST, FRESH, FUNCTIONS, TOLD = 12 };
+
+static const struct function functions[FUNCTIONS] = {
+    [LIST] = {"listed", tollgilt_list, TOLLGILT_LISTING_ROOM, 3},
+    [FRESH] = {"afresh", tollgilt_fresh, TOLLGILT_PAGE_ROOM, TOLD},
+};
+
+struct answer {
+    uint32_t number, told[TOLD];
+    int rest_untouched;
+    uint8_t laid[TOLLGILT_LISTING_ROOM];
+};
+
+/* How many bytes were laid into the room: the length of a listing, or of all fresh pages together. */
+static size_t laid(const struct function *f, const uint32_t *told) {
+    size_t length = f->told == TOLD ? 0 : told[0];
+    for (size_t i = 3; i < f->told; i++)
+        length += told[i];
+    return length;
+}
+
 /* A call whose ranges are all lent as said above; `refused` says that its room is read-only too. The room holds `poison` before. */
-static struct answer call(const uint8_t *buffer, size_t size, const size_t *starts, size_t starts_count, const size_t *lens, size_t lens_count,
-                          size_t room, uint8_t poison, int refused) {
+static struct answer call(const struct function *f, const uint8_t *buffer, size_t size, const size_t *starts, size_t starts_count, const size_t *lens,
+                          size_t lens_count, size_t room, uint8_t poison, int refused) {
     struct range b = lend_copy(buffer, size);
     struct range s = lend_copy(starts, starts_count * sizeof *starts);
     struct range l = lend_copy(lens, lens_count * sizeof *lens);
     struct range o = lend(room);
-    struct range t = lend(3 * sizeof(uint32_t));
+    struct range t = lend(f->told * sizeof(uint32_t));
     static struct answer a;
     memset(o.bytes, poison, room);
-    memset(t.bytes, 0xA5, 3 * sizeof(uint32_t));
+    memset(t.bytes, 0xA5, f->told * sizeof(uint32_t));
     if (refused)
         seal(o);
-    a.number = tollgilt_list(b.bytes, size, (const size_t *)(void *)s.bytes, starts_count, (const size_t *)(void *)l.bytes, lens_count, o.bytes, room,
-                             (uint32_t *)(void *)t.bytes);
-    memcpy(a.told, t.bytes, sizeof a.told);
-    size_t length = a.told[0] <= room ? a.told[0] : 0;
-    memcpy(a.lines, o.bytes, length <= sizeof a.lines ? length : 0);
+    a.number = f->call(b.bytes, size, (const size_t *)(void *)s.bytes, starts_count, (const size_t *)(void *)l.bytes, lens_count, o.bytes, room,
+                       (uint32_t *)(void *)t.bytes);
+    memset(a.told, 0, sizeof a.told);
+    memcpy(a.told, t.bytes, f->told * sizeof(uint32_t));
+    size_t length = laid(f, a.told) <= room ? laid(f, a.told) : 0;
+    memcpy(a.laid, o.bytes, length <= sizeof a.laid ? length : 0);
     a.rest_untouched = 1;
     for (size_t i = length; i < room; i++)
         a.rest_untouched &= o.bytes[i] == poison;
@@ -99,14 +123,29 @@ static struct answer call(const uint8_t *buffer, size_t size, const size_t *star
     return a;
 }
 
-/* The call is refused with these numbers, and its room is untouched. */
-static void refused_call(const char *name, const uint8_t *buffer, size_t size, const size_t *starts, size_t starts_count, const size_t *lens,
-                         size_t lens_count, size_t room, uint32_t number, uint32_t page, uint32_t place) {
-    struct answer a = call(buffer, size, starts, starts_count, lens, lens_count, room, 0xA5, 1);
-    int same = a.number == number && a.told[0] == 0 && a.told[1] == page && a.told[2] == place;
+static void fact_of(const struct function *f, const char *name, int holds) {
+    char both[200];
+    snprintf(both, sizeof both, "%s, %s", name, f->name);
+    fact(both, holds);
+}
+
+/* The function refuses the call with these numbers, and its room, which lacks so many bytes of what it asks for, is untouched. */
+static void refused_by(const struct function *f, const char *name, const uint8_t *buffer, size_t size, const size_t *starts, size_t starts_count,
+                       const size_t *lens, size_t lens_count, size_t lack, uint32_t number, uint32_t page, uint32_t place) {
+    size_t room = lack < f->room ? f->room - lack : 0;
+    struct answer a = call(f, buffer, size, starts, starts_count, lens, lens_count, room, 0xA5, 1);
+    uint32_t told[TOLD] = {0, page, place};
+    int same = a.number == number && memcmp(a.told, told, sizeof told) == 0;
     if (!same)
-        printf("%s: %u, page %u, place %u, length %u\n", name, (unsigned)a.number, (unsigned)a.told[1], (unsigned)a.told[2], (unsigned)a.told[0]);
-    fact(name, same && a.rest_untouched);
+        printf("%s: %u, page %u, place %u, first number %u\n", name, (unsigned)a.number, (unsigned)a.told[1], (unsigned)a.told[2], (unsigned)a.told[0]);
+    fact_of(f, name, same && a.rest_untouched);
+}
+
+/* Each function refuses the call so. */
+static void refused_call(const char *name, const uint8_t *buffer, size_t size, const size_t *starts, size_t starts_count, const size_t *lens,
+                         size_t lens_count, size_t lack, uint32_t number, uint32_t page, uint32_t place) {
+    for (size_t f = 0; f < FUNCTIONS; f++)
+        refused_by(&functions[f], name, buffer, size, starts, starts_count, lens, lens_count, lack, number, page, place);
 }
 
 /* ---- sheets ---- */
@@ -126,11 +165,12 @@ static void add_bytes(struct sheets *set, const void *bytes, size_t length) {
     set->size += length;
 }
 
-/* Adds page a of z of the plan of this person, with these bytes behind the head, and blanks behind it up to so many bytes. */
+/* Adds page a of z of the plan of this person, with these bytes behind the head, and blanks behind it up to so many bytes. Without blanks, and with fresh
+ * bytes behind the head, the page is a fresh one. */
 static void add(struct sheets *set, const char *person, int a, int z, const char *rest, size_t filled) {
     char page[2000];
     int length = snprintf(page, sizeof page,
-                          "<MP v=\"027\" U=\"00112233445566778899AABBCCDDEEFF\" a=\"%d\" z=\"%d\"><P g=\"%s\" f=\"Kern\" b=\"19510704\"/>"
+                          "<MP v=\"027\" U=\"00112233445566778899AABBCCDDEEFF\" l=\"de-DE\" a=\"%d\" z=\"%d\"><P g=\"%s\" f=\"Kern\" b=\"19510704\"/>"
                           "<A n=\"Praxis Holm\" t=\"2023-03-01T09:30:00\"/>%s</MP>",
                           a, z, person, rest);
     size_t whole = (size_t)length > filled ? (size_t)length : filled;
@@ -139,17 +179,26 @@ static void add(struct sheets *set, const char *person, int a, int z, const char
 }
 
 static void refused_sheets(const char *name, const struct sheets *set, uint32_t number, uint32_t page, uint32_t place) {
-    refused_call(name, set->buffer, set->size, set->starts, set->count, set->lens, set->count, TOLLGILT_LISTING_ROOM, number, page, place);
+    refused_call(name, set->buffer, set->size, set->starts, set->count, set->lens, set->count, 0, number, page, place);
 }
 
-/* The sheets give these lines, in rooms of several sizes and contents, which are untouched behind the lines. */
-static void listed_sheets(const char *name, const struct sheets *set, const char *lines) {
-    static const size_t rooms[] = {TOLLGILT_LISTING_ROOM, TOLLGILT_LISTING_ROOM + 1, 3 * TOLLGILT_LISTING_ROOM};
+/* For the sheets the function tells these numbers and lays these bytes, in rooms of several sizes and contents, which are untouched behind them. */
+static void answered_by(const struct function *f, const char *name, const struct sheets *set, const uint32_t *told, const void *bytes) {
+    const size_t rooms[] = {f->room, f->room + 1, 3 * f->room};
     for (size_t i = 0; i < 6; i++) {
-        struct answer a = call(set->buffer, set->size, set->starts, set->count, set->lens, set->count, rooms[i / 2], i % 2 ? 0xA5 : 0, 0);
-        int same = a.number == 0 && a.told[0] == strlen(lines) && a.told[1] == 0 && a.told[2] == 0 && memcmp(a.lines, lines, a.told[0]) == 0;
-        fact(name, same && a.rest_untouched);
+        struct answer a = call(f, set->buffer, set->size, set->starts, set->count, set->lens, set->count, rooms[i / 2], i % 2 ? 0xA5 : 0, 0);
+        int same = a.number == 0 && memcmp(a.told, told, f->told * sizeof *told) == 0 && memcmp(a.laid, bytes, laid(f, told)) == 0;
+        fact_of(f, name, same && a.rest_untouched);
     }
+}
+
+/* The sheets give these lines and these fresh pages. */
+static void answered_sheets(const char *name, const struct sheets *set, const char *lines, const struct sheets *fresh) {
+    uint32_t listed[3] = {(uint32_t)strlen(lines)}, told[TOLD] = {(uint32_t)fresh->count};
+    for (size_t i = 0; i < fresh->count; i++)
+        told[3 + i] = (uint32_t)fresh->lens[i];
+    answered_by(&functions[LIST], name, set, listed, lines);
+    answered_by(&functions[FRESH], name, set, told, fresh->buffer);
 }
 
 #define HEAD_LINES \
@@ -157,29 +206,33 @@ static void listed_sheets(const char *name, const struct sheets *set, const char
 
 /* ---- the facts ---- */
 
-static void listings(void) {
+static void plans(void) {
     static const char example[] =
         "<MP v=\"027\" U=\"00112233445566778899AABBCCDDEEFF\"><P g=\"Ida\" f=\"Kern\" b=\"19510704\"/><A n=\"Praxis Holm\" t=\"2023-03-01T09:30:00\"/>"
         "<S c=\"412\"><M v=\"0,5\" m='1' d=\"0\" p=\"02394428\"/></S></MP>";
-    struct sheets one = {0}, nine = {0}, back = {0}, spread = {0};
+    struct sheets one = {0}, nine = {0}, back = {0}, spread = {0}, fresh = {0};
     add_bytes(&one, example, sizeof example - 1);
-    listed_sheets("the paper's example", &one, HEAD_LINES "row=H\nMP.S.c=412\nrow=M\nMP.S.M.p=2394428\nMP.S.M.m=1\nMP.S.M.v=0,5\nrows=2\n");
+    add(&fresh, "Ida", 1, 1, "<S c=\"412\"><M p=\"2394428\" m=\"1\" v=\"0,5\"/></S>", 0);
+    answered_sheets("the paper's example", &one, HEAD_LINES "row=H\nMP.S.c=412\nrow=M\nMP.S.M.p=2394428\nMP.S.M.m=1\nMP.S.M.v=0,5\nrows=2\n", &fresh);
 
-    char lines[1000] = HEAD_LINES;
+    char lines[1000] = HEAD_LINES, rows[1000] = "<S>";
     for (int a = 1; a <= 9; a++) {
         char row[50];
         snprintf(row, sizeof row, "<S><X t=\"Zeile %d\"/></S>", a);
         add(&nine, "Ida", a, 9, row, TOLLGILT_PAGE_BYTES);
         snprintf(lines + strlen(lines), sizeof lines - strlen(lines), "row=X\nMP.S.X.t=Zeile %d\n", a);
+        snprintf(rows + strlen(rows), sizeof rows - strlen(rows), "<X t=\"Zeile %d\"/>", a);
     }
     strcat(lines, "rows=9\n");
+    strcat(rows, "</S>");
+    fresh = (struct sheets){0}, add(&fresh, "Ida", 1, 1, rows, 0);
     fact("nine full pages fill the most that pages can", nine.size == 9 * TOLLGILT_PAGE_BYTES);
-    listed_sheets("nine full pages", &nine, lines);
+    answered_sheets("nine full pages", &nine, lines, &fresh);
 
     back = nine;
     for (int i = 0; i < 9; i++)
         back.starts[i] = nine.starts[8 - i];
-    listed_sheets("nine full pages in the other order", &back, lines);
+    answered_sheets("nine full pages in the other order", &back, lines, &fresh);
 
     memset(spread.buffer, '<', sizeof spread.buffer);
     for (int i = 0; i < 9; i++) {
@@ -188,7 +241,40 @@ static void listings(void) {
         memcpy(spread.buffer + spread.starts[i], nine.buffer + nine.starts[i], nine.lens[i]);
     }
     spread.count = 9, spread.size = 9 * 1500 + 100;
-    listed_sheets("pages that lie apart in their buffer, other bytes between them", &spread, lines);
+    answered_sheets("pages that lie apart in their buffer, other bytes between them", &spread, lines, &fresh);
+}
+
+/* Five notes of 200 bytes, of which the first ones are this mark: on a fresh page no sixth note of this length fits. */
+static void notes(char *rest, size_t size, char quote, char mark) {
+    char note[201];
+    memset(note, 'a', 200), memset(note, mark, 40), note[200] = 0;
+    snprintf(rest, size, "<S>");
+    for (int i = 0; i < 5; i++)
+        snprintf(rest + strlen(rest), size - strlen(rest), "<X t=%c%s%c/>", quote, note, quote);
+    snprintf(rest + strlen(rest), size - strlen(rest), "</S>");
+}
+
+/* Nine fresh pages give themselves, in any order. With quote marks, which grow to six bytes, the notes do not fit on nine. */
+static void nine_fresh(void) {
+    struct sheets fresh = {0}, quoted = {0};
+    uint32_t told[TOLD] = {9};
+    char rest[1400];
+    notes(rest, sizeof rest, '"', 'a');
+    for (int a = 1; a <= 9; a++) {
+        add(&fresh, "Ida", a, 9, rest, 0);
+        told[2 + a] = (uint32_t)fresh.lens[a - 1];
+    }
+    struct sheets back = fresh;
+    for (int i = 0; i < 9; i++)
+        back.starts[i] = fresh.starts[8 - i];
+    answered_by(&functions[FRESH], "nine fresh pages", &fresh, told, fresh.buffer);
+    answered_by(&functions[FRESH], "nine fresh pages in the other order", &back, told, fresh.buffer);
+
+    notes(rest, sizeof rest, '\'', '"');
+    for (int a = 1; a <= 9; a++)
+        add(&quoted, "Ida", a, 9, rest, 0);
+    refused_by(&functions[FRESH], "14: of 45 notes with quote marks three fit on a page", quoted.buffer, quoted.size, quoted.starts, 9, quoted.lens, 9, 0, 14, 0,
+               28);
 }
 
 static void refusals(void) {
@@ -204,19 +290,19 @@ static void refusals(void) {
     set = (struct sheets){0}, add(&set, "Ida", 1, 1, "", 1401);
     refused_sheets("2: a page of 1,401 bytes", &set, 2, 1, 0);
     set = (struct sheets){0}, add(&set, "Ida", 1, 2, "", 0), add(&set, "I\x80", 2, 2, "", 0);
-    refused_sheets("3: a byte that is not allowed", &set, 3, 2, 68);
+    refused_sheets("3: a byte that is not allowed", &set, 3, 2, 78);
     set = (struct sheets){0}, add_bytes(&set, "<MP v='027'", 11);
     refused_sheets("4: a page that ends too early", &set, 4, 1, 11);
     set = (struct sheets){0}, add_bytes(&set, "<MP><P</MP>", 11);
     refused_sheets("4: a page that is malformed", &set, 4, 1, 6);
     set = (struct sheets){0}, add(&set, "Ida", 1, 1, "<S/><O/>", 0);
-    refused_sheets("5: an element behind a later one", &set, 5, 1, 143);
+    refused_sheets("5: an element behind a later one", &set, 5, 1, 153);
     set = (struct sheets){0}, add_bytes(&set, " <MP v='026'/>", 14);
     refused_sheets("6: another edition", &set, 6, 1, 1);
     set = (struct sheets){0}, add(&set, "Ida", 1, 1, "<S><M p=\"2394429\"/></S>", 0);
-    refused_sheets("7: a wrong check digit", &set, 7, 1, 142);
+    refused_sheets("7: a wrong check digit", &set, 7, 1, 152);
     set = (struct sheets){0}, add(&set, "Ida", 1, 1, "<S><M a=\"A\" m=\"0\" t=\"1\"/></S>", 0);
-    refused_sheets("8: two fields that exclude each other", &set, 8, 1, 142);
+    refused_sheets("8: two fields that exclude each other", &set, 8, 1, 152);
     set = (struct sheets){0}, add(&set, "Ida", 1, 3, "", 0), add(&set, "Ida", 2, 3, "", 0), add(&set, "Eva", 3, 3, "", 0);
     refused_sheets("9: a page of another person", &set, 9, 3, 0);
     set = (struct sheets){0}, add(&set, "Ida", 2, 3, "", 0), add(&set, "Ida", 2, 3, "", 0);
@@ -260,64 +346,67 @@ static void numbers(void) {
         {"two halves, a sum of 1", half + 1, half, 1, 0, 0},
     };
     for (size_t i = 0; i < sizeof edges / sizeof *edges; i++)
-        refused_call(edges[i].name, page, 5, &edges[i].start, 1, &edges[i].length, 1, TOLLGILT_LISTING_ROOM, edges[i].number, edges[i].page,
-                     edges[i].place);
+        refused_call(edges[i].name, page, 5, &edges[i].start, 1, &edges[i].length, 1, 0, edges[i].number, edges[i].page, edges[i].place);
 
     size_t starts[2] = {0, 6}, lens[2] = {5, 5};
-    refused_call("a bad second page comes before a bad first one", page, 5, starts, 2, lens, 2, TOLLGILT_LISTING_ROOM, 1, 0, 0);
-    refused_call("two starts and one length", page, 5, zeros, 2, fives, 1, TOLLGILT_LISTING_ROOM, 1, 0, 0);
-    refused_call("one start and two lengths", page, 5, zeros, 1, fives, 2, TOLLGILT_LISTING_ROOM, 1, 0, 0);
-    refused_call("a start and no length", page, 5, zeros, 1, fives, 0, TOLLGILT_LISTING_ROOM, 1, 0, 0);
-    refused_call("no start and a length", page, 5, zeros, 0, fives, 1, TOLLGILT_LISTING_ROOM, 1, 0, 0);
-    refused_call("ten pages", page, 5, zeros, 10, fives, 10, TOLLGILT_LISTING_ROOM, 1, 0, 0);
-    refused_call("257 pages", page, 5, zeros, 257, zeros, 257, TOLLGILT_LISTING_ROOM, 1, 0, 0);
-    refused_call("the same bytes as nine pages", page, 5, zeros, 9, fives, 9, TOLLGILT_LISTING_ROOM, 6, 1, 0);
-    refused_call("a room one byte too small", page, 5, zeros, 1, fives, 1, TOLLGILT_LISTING_ROOM - 1, 1, 0, 0);
-    refused_call("a room of one byte", page, 5, zeros, 1, fives, 1, 1, 1, 0, 0);
-    refused_call("no room", page, 5, zeros, 1, fives, 1, 0, 1, 0, 0);
+    refused_call("a bad second page comes before a bad first one", page, 5, starts, 2, lens, 2, 0, 1, 0, 0);
+    refused_call("two starts and one length", page, 5, zeros, 2, fives, 1, 0, 1, 0, 0);
+    refused_call("one start and two lengths", page, 5, zeros, 1, fives, 2, 0, 1, 0, 0);
+    refused_call("a start and no length", page, 5, zeros, 1, fives, 0, 0, 1, 0, 0);
+    refused_call("no start and a length", page, 5, zeros, 0, fives, 1, 0, 1, 0, 0);
+    refused_call("ten pages", page, 5, zeros, 10, fives, 10, 0, 1, 0, 0);
+    refused_call("257 pages", page, 5, zeros, 257, zeros, 257, 0, 1, 0, 0);
+    refused_call("the same bytes as nine pages", page, 5, zeros, 9, fives, 9, 0, 6, 1, 0);
+    refused_call("a room one byte too small", page, 5, zeros, 1, fives, 1, 1, 1, 0, 0);
+    refused_call("a room of one byte, or the other function's", page, 5, zeros, 1, fives, 1, TOLLGILT_PAGE_ROOM - 1, 1, 0, 0);
+    refused_call("no room", page, 5, zeros, 1, fives, 1, TOLLGILT_LISTING_ROOM, 1, 0, 0);
 }
 
 /* A room one byte too small for pages that are a plan. */
 static void small_rooms(void) {
     struct sheets set = {0};
     add(&set, "Ida", 1, 1, "", 0);
-    refused_call("a plan and a room one byte too small", set.buffer, set.size, set.starts, 1, set.lens, 1, TOLLGILT_LISTING_ROOM - 1, 1, 0, 0);
-    refused_call("a plan and no room", set.buffer, set.size, set.starts, 1, set.lens, 1, 0, 1, 0, 0);
+    refused_call("a plan and a room one byte too small", set.buffer, set.size, set.starts, 1, set.lens, 1, 1, 1, 0, 0);
+    refused_call("a plan and no room", set.buffer, set.size, set.starts, 1, set.lens, 1, TOLLGILT_LISTING_ROOM, 1, 0, 0);
 }
 
 /* Empty slices at addresses where there is no memory, as an empty Vec has them. */
-static void dangling(void) {
+static void dangling(const struct function *f) {
     static uint8_t out[TOLLGILT_LISTING_ROOM];
     uint8_t *no_bytes = (uint8_t *)(uintptr_t)1;
     size_t *no_numbers = (size_t *)(uintptr_t)sizeof(size_t);
     size_t zero = 0;
-    uint32_t told[3] = {7, 7, 7};
-    fact("nothing at all is refused with 1", tollgilt_list(no_bytes, 0, no_numbers, 0, no_numbers, 0, no_bytes, 0, told) == 1);
-    fact("its numbers are 0", told[0] == 0 && told[1] == 0 && told[2] == 0);
-    fact("no page in no buffer is refused with 1", tollgilt_list(no_bytes, 0, no_numbers, 0, no_numbers, 0, out, sizeof out, told) == 1);
-    fact("an empty page in no buffer is refused with 2", tollgilt_list(no_bytes, 0, &zero, 1, &zero, 1, out, sizeof out, told) == 2);
-    fact("it is page 1", told[0] == 0 && told[1] == 1 && told[2] == 0);
+    uint32_t told[TOLD], none[TOLD] = {0}, page_one[TOLD] = {0, 1};
+    memset(told, 7, sizeof told);
+    fact_of(f, "nothing at all is refused with 1", f->call(no_bytes, 0, no_numbers, 0, no_numbers, 0, no_bytes, 0, told) == 1);
+    fact_of(f, "its numbers are 0", memcmp(told, none, f->told * sizeof *told) == 0);
+    fact_of(f, "no page in no buffer is refused with 1", f->call(no_bytes, 0, no_numbers, 0, no_numbers, 0, out, f->room, told) == 1);
+    fact_of(f, "an empty page in no buffer is refused with 2", f->call(no_bytes, 0, &zero, 1, &zero, 1, out, f->room, told) == 2);
+    fact_of(f, "it is page 1", memcmp(told, page_one, f->told * sizeof *told) == 0);
 }
 
-/* Where the person's name begins in a page that `add` makes. */
-enum { PERSON = 67 };
+/* Where the person's name begins in a page that `add` makes, and what stands before it in a listing and on a fresh page. */
+enum { PERSON = 77 };
+static const char *const before_person[FUNCTIONS] = {[LIST] = "MP.P.g=", [FRESH] = "<P g=\""};
 
 enum { THREADS = 4, TIMES = 500 };
 
 static pthread_barrier_t together;
 
-/* Lists one plan again and again, beside the other threads, and gives how often the answer was right: the person, a digit, stands in it. */
-static void *lists(void *one) {
+/* Lists one plan and writes it afresh again and again, beside the other threads, and gives how often the answer was right: the person, a digit, stands in
+ * it. */
+static void *answers(void *one) {
     const struct sheets *set = one;
-    static const char line[] = "MP.P.g=";
     uint8_t *out = malloc(TOLLGILT_LISTING_ROOM);
     size_t right = 0;
     pthread_barrier_wait(&together);
     for (int i = 0; i < TIMES; i++) {
-        uint32_t told[3];
-        uint32_t number = tollgilt_list(set->buffer, set->size, set->starts, set->count, set->lens, set->count, out, TOLLGILT_LISTING_ROOM, told);
-        uint8_t *found = number == 0 ? memmem(out, told[0], line, strlen(line)) : NULL;
-        right += found != NULL && found[strlen(line)] == set->buffer[PERSON];
+        const struct function *f = &functions[i % FUNCTIONS];
+        const char *before = before_person[i % FUNCTIONS];
+        uint32_t told[TOLD];
+        uint32_t number = f->call(set->buffer, set->size, set->starts, set->count, set->lens, set->count, out, f->room, told);
+        uint8_t *found = number == 0 ? memmem(out, laid(f, told), before, strlen(before)) : NULL;
+        right += found != NULL && found[strlen(before)] == set->buffer[PERSON];
     }
     free(out);
     return (void *)right;
@@ -330,7 +419,7 @@ static void threads(void) {
     for (int i = 0; i < THREADS; i++) {
         char person[2] = {(char)('0' + i), 0};
         add(&sets[i], person, 1, 1, "<S><X t=\"x\"/></S>", TOLLGILT_PAGE_BYTES);
-        pthread_create(&running[i], NULL, lists, &sets[i]);
+        pthread_create(&running[i], NULL, answers, &sets[i]);
     }
     for (int i = 0; i < THREADS; i++) {
         void *right;
@@ -340,11 +429,13 @@ static void threads(void) {
 }
 
 int main(void) {
-    listings();
+    plans();
+    nine_fresh();
     refusals();
     numbers();
     small_rooms();
-    dangling();
+    for (size_t f = 0; f < FUNCTIONS; f++)
+        dangling(&functions[f]);
     threads();
     printf("%d passed, %d failed\n", passed, failed);
     return failed != 0;

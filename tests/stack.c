@@ -13,18 +13,29 @@ enum { STACK = 4 << 20, PROMISED = 256 << 10, PATTERN = 0x5C, ROOM = 9 * TOLLGIL
 
 static uint8_t buffer[ROOM], out[TOLLGILT_LISTING_ROOM];
 static size_t starts[9], lens[9], pages;
-static uint32_t number, told[3];
+static uint32_t number, told[12];
 static uint8_t *top;
 
-static void *call(void *unused) {
+/* A function of the border, and the most of the stack that it was seen to use. */
+struct function {
+    const char *name;
+    uint32_t (*call)(const uint8_t *, size_t, const size_t *, size_t, const size_t *, size_t, uint8_t *, size_t, uint32_t *);
+    size_t most;
+};
+
+enum { LIST, FRESH, FUNCTIONS };
+
+static struct function functions[FUNCTIONS] = {[LIST] = {"tollgilt_list", tollgilt_list, 0}, [FRESH] = {"tollgilt_fresh", tollgilt_fresh, 0}};
+
+static void *call(void *function) {
     uint8_t here;
     top = &here;
-    number = tollgilt_list(buffer, sizeof buffer, starts, pages, lens, pages, out, sizeof out, told);
-    return unused;
+    number = ((struct function *)function)->call(buffer, sizeof buffer, starts, pages, lens, pages, out, sizeof out, told);
+    return NULL;
 }
 
-/* Bytes of the stack that a call on the pages uses. */
-static size_t used(void) {
+/* Bytes of the stack that a call of the function on the pages uses. */
+static size_t used(struct function *f) {
     uint8_t *stack = mmap(NULL, STACK, PROT_READ | PROT_WRITE, MAP_PRIVATE | MAP_ANONYMOUS | MAP_STACK, -1, 0);
     pthread_attr_t own;
     pthread_t thread;
@@ -32,7 +43,7 @@ static size_t used(void) {
         abort();
     memset(stack, PATTERN, STACK);
     pthread_attr_init(&own);
-    if (pthread_attr_setstack(&own, stack, STACK) != 0 || pthread_create(&thread, &own, call, NULL) != 0 || pthread_join(thread, NULL) != 0)
+    if (pthread_attr_setstack(&own, stack, STACK) != 0 || pthread_create(&thread, &own, call, f) != 0 || pthread_join(thread, NULL) != 0)
         abort();
     size_t at = 0;
     while (stack[at] == PATTERN)
@@ -60,20 +71,23 @@ static void page(size_t a, size_t z, const char *row) {
 }
 
 static int passed, failed;
-static size_t most;
 
-/* Nine full pages of rows of this kind, answered with this number, stay within what the header promises. */
-static void stays(const char *name, const char *row, size_t z, uint32_t answer) {
+/* Each function's call on nine full pages of rows of this kind gets its number and stays within what the header promises. */
+static void stay(const char *name, const char *row, size_t z, uint32_t listed, uint32_t fresh) {
+    const uint32_t answers[FUNCTIONS] = {[LIST] = listed, [FRESH] = fresh};
     for (size_t a = 1; a <= 9; a++)
         page(a, z, row);
-    size_t deep = used();
-    if (deep > most)
-        most = deep;
-    if (number == answer && deep < PROMISED) {
-        passed++;
-    } else {
-        failed++;
-        printf("FAILED: %s: answer %u, %zu bytes of stack\n", name, (unsigned)number, deep);
+    for (size_t i = 0; i < FUNCTIONS; i++) {
+        struct function *f = &functions[i];
+        size_t deep = used(f);
+        if (deep > f->most)
+            f->most = deep;
+        if (number == answers[i] && deep < PROMISED) {
+            passed++;
+        } else {
+            failed++;
+            printf("FAILED: %s, %s: answer %u, %zu bytes of stack\n", name, f->name, (unsigned)number, deep);
+        }
     }
 }
 
@@ -81,17 +95,20 @@ int main(void) {
     pages = 9;
     for (size_t i = 0; i < 9; i++)
         starts[i] = i * TOLLGILT_PAGE_BYTES, lens[i] = TOLLGILT_PAGE_BYTES;
-    stays("medications with three substances", "<M p=\"2394428\" m=\"1\" d=\"1/2\" v=\"0,5\" h=\"2\" du=\"1\" i=\"&lt;&#38;&quot;\"><W w=\"a\" s=\"b\"/><W w=\"c\"/><W w=\"d\"/></M>", 9, 0);
-    stays("long notes", "<X t=\"&amp;&#x41;&quot;&gt;&lt;&apos;aaaaaaaaaaaaaaaaaaaaaaaaaaaaaaaaaaaaaaaaaaaaaaaaaaaaa~aaaaaaaaaaaaaaaaaaaaaaaaaaaaaaaaaaaaa\"/>", 9, 0);
-    stays("free text doses and recipes", "<M a=\"x\" t=\"nach Bedarf\" dud=\"Stueck\" r=\"Husten und Schnupfen, wenn er nicht weicht\"/><R t=\"y\" x=\"z\"/>", 9, 0);
-    stays("no rows", "", 9, 0);
-    stays("more rows than a plan has", "<X t=\"1\"/>", 9, 12);
-    stays("a value that breaks its field", "<M p=\"2394429\"/>", 9, 7);
-    stays("an unknown element", "<Y/>", 9, 5);
-    stays("a page number above the number of pages", "<X t=\"1\"/>", 8, 7);
-    stays("elements within elements", "<M a=\"x\"><W w=\"y\"></W></M><S></S>", 9, 5);
-    stays("markup that breaks off", "<X t=\"1\"<", 9, 4);
-    stays("as many open elements as fit", "<Y>", 9, 4);
-    printf("the deepest call used %zu bytes of stack\n%d passed, %d failed\n", most, passed, failed);
+    stay("medications with three substances", "<M p=\"2394428\" m=\"1\" d=\"1/2\" v=\"0,5\" h=\"2\" du=\"1\" i=\"&lt;&#38;&quot;\"><W w=\"a\" s=\"b\"/><W w=\"c\"/><W w=\"d\"/></M>", 9, 0, 0);
+    stay("long notes", "<X t=\"&amp;&#x41;&quot;&gt;&lt;&apos;aaaaaaaaaaaaaaaaaaaaaaaaaaaaaaaaaaaaaaaaaaaaaaaaaaaaa~aaaaaaaaaaaaaaaaaaaaaaaaaaaaaaaaaaaaa\"/>", 9, 0, 0);
+    stay("free text doses and recipes", "<M a=\"x\" t=\"nach Bedarf\" dud=\"Stueck\" r=\"Husten und Schnupfen, wenn er nicht weicht\"/><R t=\"y\" x=\"z\"/>", 9, 0, 0);
+    stay("notes that grow", "<X t='\"\"\"\"\"\"\"\"\"\"\"\"\"\"\"\"\"\"\"\"\"\"\"\"\"\"\"\"\"\"\"\"\"\"\"\"\"\"\"\"'/>", 9, 0, 14);
+    stay("no rows", "", 9, 0, 0);
+    stay("more rows than a plan has", "<X t=\"1\"/>", 9, 12, 12);
+    stay("a value that breaks its field", "<M p=\"2394429\"/>", 9, 7, 7);
+    stay("an unknown element", "<Y/>", 9, 5, 5);
+    stay("a page number above the number of pages", "<X t=\"1\"/>", 8, 7, 7);
+    stay("elements within elements", "<M a=\"x\"><W w=\"y\"></W></M><S></S>", 9, 5, 5);
+    stay("markup that breaks off", "<X t=\"1\"<", 9, 4, 4);
+    stay("as many open elements as fit", "<Y>", 9, 4, 4);
+    for (size_t i = 0; i < FUNCTIONS; i++)
+        printf("the deepest call of %s used %zu bytes of stack\n", functions[i].name, functions[i].most);
+    printf("%d passed, %d failed\n", passed, failed);
     return failed != 0;
 }

@@ -8,7 +8,7 @@ use native.Mathlib.Nat.{le-of-suc-le-suc, not-suc-le-zero}
 use native.Mathlib.Omega.{arith}
 use lib.Dec.{eqb}
 use lib.ListN.{length, take, drop, getD, drop-of-length-le}
-use lib.Seq.{getD-take, getD-drop, drop-drop}
+use lib.Seq.{drop-drop}
 use Rattle.paper.specs.Lists.{bytes, if, every}
 use Rattle.paper.specs.Fields.{Kind, unknown, S, M, W, R, X, is, Field, fieldsOf}
 use Rattle.paper.specs.Plan.{Slots, Row}
@@ -19,6 +19,8 @@ use Rattle.paper.specs.Listing.{Line, line, path, fieldLines, elementLines, wLi
 use Rattle.paper.proofs.Small.{both}
 use Rattle.plan.specs.Numbers.{recordAt, spanIn, spansIn, spansOf, kindShown, ownSpans, twos, before, toLast, rowWith, showRow, showRows, within, inText, knownKind, spareAbsent, fitRecord, fitRows}
 use Rattle.plan.specs.Records.{paperKind, codeKind}
+use Rattle.plan.proofs.Stores.{record-number}
+use Rattle.plan.proofs.Doses.{each-span}
 use Rattle.plan.proofs.Shown.{row-next, rows-shown}
 use Rattle.listing.specs.Written.{given}
 use Rattle.listing.specs.Numbered.{spanAt, spansAt, fieldsFrom, linesOf, spanPlace, plainRow, substanceLines, medicationRow}
@@ -26,15 +28,12 @@ use Rattle.listing.proofs.Fielded.{print-append}
 
 -- ---- the spans of a record among the numbers of the rows
 
-number-at : (rows : List ℕ) (i m : ℕ) → m < 48 → getD (recordAt rows i) m 0 ≡ getD rows (i * 48 + m) 0
-number-at rows i m h = getD-take 48 (drop (i * 48) rows) m 0 h ∙ getD-drop (i * 48) rows m 0
-
 span-at-place : (rows : List ℕ) (i j : ℕ) → j < 19 → spanIn (recordAt rows i) j ≡ spanAt rows (spanPlace i j)
 span-at-place rows i j h =
     let a : i * 48 + (2 + 2 * j) ≡ spanPlace i j = omega arith in
     let b : i * 48 + (3 + 2 * j) ≡ suc (spanPlace i j) = omega arith in
-    let x = number-at rows i (2 + 2 * j) (omega arith) ∙ ap (λ (k : ℕ). getD rows k 0) a in
-    let y = number-at rows i (3 + 2 * j) (omega arith) ∙ ap (λ (k : ℕ). getD rows k 0) b in
+    let x = record-number rows i (2 + 2 * j) (omega arith) ∙ ap (λ (k : ℕ). getD rows k 0) a in
+    let y = record-number rows i (3 + 2 * j) (omega arith) ∙ ap (λ (k : ℕ). getD rows k 0) b in
     ap (λ (k : ℕ). record { at = k; len = getD (recordAt rows i) (3 + 2 * j) 0 }) x ∙ ap (λ (k : ℕ). record { at = getD rows (spanPlace i j) 0; len = k }) y
 
 -- n spans of a record, from span j on
@@ -47,14 +46,6 @@ spans-in-place rows i (suc n) j h =
     ∙ ap (λ (r : List Span). spanAt rows (spanPlace i j) ∷ r) (spans-in-place rows i n (suc j) (omega arith) ∙ ap (λ (k : ℕ). spansAt n k rows) e)
 
 module _ (p : Span → Bool) (l : List ℕ) where
-  pub each-span : (m j i : ℕ) → i < m → every p (spansIn m j l) ≡ true → p (spanIn l (j + i)) ≡ true
-  unfolding spansIn
-  each-span zero j i h e = absurd (not-suc-le-zero h)
-  each-span (suc m) j zero h e = let q : j + 0 ≡ j = omega arith in ap (λ (k : ℕ). p (spanIn l k)) q ∙ both (p (spanIn l j)) (every p (spansIn m (suc j) l)) e .0
-  each-span (suc m) j (suc i) h e =
-      let q : j + suc i ≡ suc j + i = omega arith in
-      ap (λ (k : ℕ). p (spanIn l k)) q ∙ each-span m (suc j) i (le-of-suc-le-suc h) (both (p (spanIn l j)) (every p (spansIn m (suc j) l)) e .1)
-
   all-spans : (n j : ℕ) → ((i : ℕ) → i < n → p (spanIn l (j + i)) ≡ true) → every p (spansIn n j l) ≡ true
   unfolding spansIn
   all-spans zero j f = refl
@@ -69,7 +60,7 @@ unfolding inText
 spans-inside t rows i n j h e =
     let p : Span → Bool = within (length t) in
     ap (every p) (sym (spans-in-place rows i n j h))
-    ∙ all-spans p (recordAt rows i) n j (λ m q. let z : 0 + (j + m) ≡ j + m = omega arith in ap (λ (k : ℕ). p (spanIn (recordAt rows i) k)) (sym z) ∙ each-span p (recordAt rows i) 19 0 (j + m) (omega arith) e)
+    ∙ all-spans p (recordAt rows i) n j (λ m q. let z : 0 + (j + m) ≡ j + m = omega arith in ap (λ (k : ℕ). p (spanIn (recordAt rows i) k)) (sym z) ∙ each-span p 19 0 (recordAt rows i) e (j + m) (omega arith))
 
 -- ---- a row's kind
 

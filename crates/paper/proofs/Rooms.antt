@@ -420,7 +420,8 @@ rooms f p e =
     let w = plan-weight f p e in
     record { rows-fit = few; text-fits = omega (arith, w, text-weight p s); listing-fits = omega (arith, w, listing-weight p s few) }
 
-digits-most : (k n : ℕ) → length (digitsOf k n) ≤ k
+-- a number in at most k digits has at most k
+pub digits-most : (k n : ℕ) → length (digitsOf k n) ≤ k
 digits-most zero n = omega arith
 digits-most (suc k) n = at (ltb n 10) (digits-most k (n / 10))
   where
@@ -428,7 +429,8 @@ digits-most (suc k) n = at (ltb n 10) (digits-most k (n / 10))
     at true ih = omega arith
     at false ih = omega (arith, length-append (digitsOf k (n / 10)) ((48 + n % 10) ∷ []))
 
-refusal-short : (n k i : ℕ) → length (refusalLines n k i) ≤ 82
+-- the lines of any refusal are short
+pub refusal-short : (n k i : ℕ) → length (refusalLines n k i) ≤ 82
 unfolding refusalLines
 refusal-short n k i =
     let third : List Line = line (bytes "place") (numeral i) ∷ [] in

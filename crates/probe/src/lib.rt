@@ -1,5 +1,9 @@
 // Exported functions for the tests alone: they hand the inner layers out to the host, which compares them with the second program.
 // They are no part of the product's border, which is the crate `tollgilt`.
+pub mod cells;
+pub mod collecting;
+pub mod writing;
+
 ghost use mathlib.Core.Path.{_≡_};
 ghost use Rattle.paper.specs.Bytes.{classOf, classNumber, firstRefused};
 use fields::dose::is_zero;
@@ -22,6 +26,7 @@ use plan::Span;
 use reader::answer::refusal_number;
 use reader::answer::refusal_page;
 use reader::answer::refusal_place;
+use reader::reading::Reading;
 use reader::reading::read;
 use sheet::judge::Verdict;
 use sheet::judge::judge_page;
@@ -188,6 +193,19 @@ fn tell_spans(head: [Span; 27], told: &mut [u32; 58]) {
     }
 }
 
+// What reading gave: the number of the refusal, 0 for a plan; in `told` its page and place, the plan's patch and its number of rows, and the head's spans.
+pub fn tell_reading(r: Reading, told: &mut [u32; 58]) -> u32 {
+    let answer = r.answer;
+    let plan = r.plan;
+    told[0] = refusal_page(answer);
+    told[1] = refusal_place(answer);
+    told[2] = plan.patch;
+    told[3] = plan.rows;
+    let head = plan.head;
+    tell_spans(head, told);
+    refusal_number(answer)
+}
+
 // Reads a call: the number of the refusal, 0 for a plan; in `told` its page and place, the plan's patch and its number of rows, and the head's spans.
 #[no_mangle]
 pub extern "C" fn probe_read<'a>(
@@ -199,13 +217,5 @@ pub extern "C" fn probe_read<'a>(
     told: &mut [u32; 58],
 ) -> u32 {
     let r = read(buffer, starts, lens, rows, text);
-    let answer = r.answer;
-    let plan = r.plan;
-    told[0] = refusal_page(answer);
-    told[1] = refusal_place(answer);
-    told[2] = plan.patch;
-    told[3] = plan.rows;
-    let head = plan.head;
-    tell_spans(head, told);
-    refusal_number(answer)
+    tell_reading(r, told)
 }

@@ -2,7 +2,7 @@
 -- Assumes nothing.
 use mathlib.Core.Path.{_≡_, refl, sym, ap, _∙_, subst}
 use mathlib.Core.Bool.{Bool, true, false, not, _&&_, _||_}
-use mathlib.Core.Option.{Option, none, some}
+use mathlib.Core.Option.{none, some}
 use mathlib.Core.List.{List, [], _∷_, _++_, append-assoc, append-nil}
 use Prim.Native.Nat.{ℕ, zero, suc, _+_, _*_, _-_, _≤_, _<_}
 use native.Mathlib.Nat.{add-zero}
@@ -16,9 +16,9 @@ use Rattle.paper.specs.Lists.{if, concat, same, isEmpty}
 use Rattle.paper.specs.Grammar.{Attr, Tag, end}
 use Rattle.paper.specs.Values.{value}
 use Rattle.paper.specs.Fields.{Kind, M, R, S, W, X, code, is, Field, fieldsOf}
-use Rattle.paper.specs.Rules.{settle, isZero}
+use Rattle.paper.specs.Rules.{isZero}
 use Rattle.paper.specs.Plan.{Slots, Row}
-use Rattle.paper.specs.Judging.{found, slotsOf, allEmpty, item, rowOf}
+use Rattle.paper.specs.Judging.{slotsOf, allEmpty, item, rowOf}
 use Rattle.paper.proofs.Small.{no, below-at}
 use Rattle.paper.specs.Layout.{Span, spanAt, spansFrom}
 use Rattle.markup.specs.Laid.{laid}
@@ -26,16 +26,19 @@ use Rattle.markup.proofs.LaidLaws.{Laying, start, next-piece, next-byte, all-la
 use Rattle.markup.specs.Walk.{inside, insideAt, tagsAt, tagOf, opened, ended, Outer}
 use Rattle.markup.specs.declared.walk.Mark.{Mark}
 use Rattle.markup.specs.declared.walk.Mark.the-variants.{Start, End, Nothing}
-use Rattle.fields.specs.Places.{noField, fieldAt, firstOf, countOf, kindAt, ruleAt, ruleNumber}
-use Rattle.fields.proofs.TableLaws.{field-at, code-back, kind-back}
+use Rattle.fields.specs.Places.{fieldAt, firstOf, countOf, kindAt, ruleAt, ruleNumber}
+use Rattle.fields.proofs.TableLaws.{field-at, code-back}
 use Rattle.fields.proofs.RuleLaws.{rule-back}
 use Rattle.plan.specs.Numbers.{flat, kindNumber}
 use Rattle.plan.proofs.Stores.{laid-long}
 use Rattle.plan.specs.declared.Span as Code
 use Rattle.sheet.specs.declared.found.Raw.{Raw}
-use Rattle.sheet.specs.Found.{rawOf, rawsIn, rawsAt, Lie, Tells}
+use Rattle.sheet.specs.Found.{settledIn, noRaw, rawsAt, Lie, Tells}
+use Rattle.sheet.specs.Flaws.{slotsAt}
 use Rattle.sheet.specs.Content.{kindNamed, attrsOfFirst, wsFrom, rowsFrom}
 use Rattle.sheet.specs.Laying.{settled, toldIn, told, Sound, Fit, Room, startOf, Lays, pairs, givesRow, rowFrom}
+use Rattle.sheet.proofs.FlawLaws.{slots-long, slot-at}
+use Rattle.sheet.proofs.FlawLaws as flaws
 
 -- ---- lists of values
 
@@ -219,57 +222,29 @@ none-left {all} {text₀} {text} {n} {m} {numbers₀} {numbers} {at} {b} vs to j
 
 -- ---- what the spans of a tag tell
 
-abbrev pub noRaw : Raw
-noRaw = record { at = 0; end = 0 }
+told-in : (w : List ℕ) (fs : List Field) (rs : List Raw) → toldIn w fs rs ≡ settledIn fs (rawsAt w (length fs) rs)
+told-in w [] rs = refl
+told-in w (f ∷ fs) [] = rw (told-in w fs [])
+told-in w (f ∷ fs) (r ∷ rs) = rw (told-in w fs rs)
 
-found-raw : (l : List Attr) (n : List ℕ) → found l n ≡ value (rawOf l n)
-found-raw [] n = refl
-found-raw (a ∷ l) n = go (same (a .name) n) (found-raw l n)
-  where
-    go : (b : Bool) → found l n ≡ value (rawOf l n) → if b (value (a .raw)) (found l n) ≡ value (if b (a .raw) (rawOf l n))
-    go true h = refl
-    go false h = h
-
-told-in : (w : List ℕ) (fs : List Field) (rs : List Raw) (l : List Attr) → rawsAt w (length fs) rs ≡ rawsIn fs l → toldIn w fs rs ≡ slotsOf fs l
-told-in w [] rs l e = refl
-told-in w (f ∷ fs) [] l e =
-    let x : [] ≡ rawOf l (f .letters) = cc in
-    let y : rawsAt w (length fs) [] ≡ rawsIn fs l = cc in
-    let z : found l (f .letters) ≡ [] = found-raw l (f .letters) ∙ ap value (sym x) in
-    rw (z, told-in w fs [] l y)
-told-in w (f ∷ fs) (r ∷ rs) l e =
-    let x : slice (r .at) (r .end) w ≡ rawOf l (f .letters) = cc in
-    let y : rawsAt w (length fs) rs ≡ rawsIn fs l = cc in
-    let z : found l (f .letters) ≡ value (slice (r .at) (r .end) w) = found-raw l (f .letters) ∙ ap value (sym x) in
-    rw (z, told-in w fs rs l y)
+-- the slots that are laid are the slots that are judged
+told-judged : (w : List ℕ) (k : Kind) (rs : List Raw) → told w k rs ≡ slotsAt w k rs
+unfolding told slotsAt
+told-judged w k rs = told-in w (fieldsOf k) rs
 
 -- the spans tell an element's slots
 pub told-slots : (w : List ℕ) (k : Kind) (rs : List Raw) (l : List Attr) → Tells w k rs l → told w k rs ≡ slotsOf (fieldsOf k) l
-unfolding told
-told-slots w k rs l T = told-in w (fieldsOf k) rs l (T .raws)
-
-told-in-long : (w : List ℕ) (fs : List Field) (rs : List Raw) → length (toldIn w fs rs) ≡ length fs
-told-in-long w [] rs = refl
-told-in-long w (f ∷ fs) [] = ap suc (told-in-long w fs [])
-told-in-long w (f ∷ fs) (r ∷ rs) = ap suc (told-in-long w fs rs)
+told-slots w k rs l T = told-judged w k rs ∙ flaws.told-slots T
 
 pub told-long : (w : List ℕ) (k : Kind) (rs : List Raw) → length (told w k rs) ≡ countOf k
-unfolding told countOf
-told-long w k rs = told-in-long w (fieldsOf k) rs
-
-told-in-at : (w : List ℕ) (fs : List Field) (rs : List Raw) (j : ℕ) → j < length fs
-    → getD (toldIn w fs rs) j [] ≡ settle (getD fs j noField) (value (slice (getD rs j noRaw .at) (getD rs j noRaw .end) w))
-told-in-at w [] rs j h = absurd (omega arith)
-told-in-at w (f ∷ fs) [] zero h = refl
-told-in-at w (f ∷ fs) (r ∷ rs) zero h = refl
-told-in-at w (f ∷ fs) [] (suc j) h = told-in-at w fs [] j (omega arith)
-told-in-at w (f ∷ fs) (r ∷ rs) (suc j) h = told-in-at w fs rs j (omega arith)
+unfolding countOf
+told-long w k rs = ap length (told-judged w k rs) ∙ slots-long w k rs
 
 -- one of the slots, by its place
 pub told-at : (w : List ℕ) (k : Kind) (rs : List Raw) (j : ℕ) → j < countOf k
     → getD (told w k rs) j [] ≡ settled (firstOf k + j) (slice (getD rs j noRaw .at) (getD rs j noRaw .end) w)
-unfolding told settled countOf
-told-at w k rs j h = told-in-at w (fieldsOf k) rs j h ∙ rw (field-at k j h)
+unfolding settled countOf
+told-at w k rs j h = ap (λ (vs : Slots). getD vs j []) (told-judged w k rs) ∙ slot-at w k rs j h ∙ rw (field-at k j h)
 
 -- the same, by the place of the element's first field
 pub told-here : (w : List ℕ) (k : Kind) (rs : List Raw) (first j : ℕ) → first ≡ firstOf k → j < countOf k

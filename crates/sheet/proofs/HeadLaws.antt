@@ -35,10 +35,10 @@ use Rattle.plan.proofs.Shown.{HeadShape, head-back}
 use Rattle.plan.specs.declared.Span as Code
 use Rattle.sheet.specs.declared.found.Raw.{Raw}
 use Rattle.sheet.specs.Fold.{strange}
-use Rattle.sheet.specs.Found.{Tells}
+use Rattle.sheet.specs.Found.{noRaw, Tells}
 use Rattle.sheet.specs.Content.{kindNamed, attrsOfFirst, slotsFrom, partFrom, headFrom, contentOf}
 use Rattle.sheet.specs.Laying.{settled, told, Sound, Fit, attrsIf, Room, Lays, pairs, LaysHead}
-use Rattle.sheet.proofs.ContentLaws.{Going, begin, turn, finish, told-slots, told-long, told-at, room-one, laid-none, noRaw, two-stored, flat-long, room-first, room-behind, numbers-kept, placed-at, behind, front}
+use Rattle.sheet.proofs.ContentLaws.{Going, begin, turn, finish, told-slots, told-long, told-at, room-one, laid-none, two-stored, flat-long, room-first, room-behind, numbers-kept, placed-at, behind, front}
 
 -- ---- the first element of a kind
 

@@ -28,10 +28,10 @@ use Rattle.plan.proofs.Spans.{padded-long, record-size}
 use Rattle.plan.proofs.Stores.{laid-long}
 use Rattle.sheet.specs.declared.found.Raw.{Raw}
 use Rattle.sheet.specs.Fold.{strange}
-use Rattle.sheet.specs.Found.{Lie, Tells}
+use Rattle.sheet.specs.Found.{noRaw, Lie, Tells}
 use Rattle.sheet.specs.Content.{kindNamed, wsFrom, rowsFrom}
 use Rattle.sheet.specs.Laying.{settled, told, Sound, Fit, Room, Lays, givesRow, rowFrom, LaysRow, Fills}
-use Rattle.sheet.proofs.ContentLaws.{Starts, Next, fit-start, rows-start, ws-more, told-slots, told-long, behind, placed-at, told-at, noRaw, flat-long, concat-append, row-given, row-none, summed}
+use Rattle.sheet.proofs.ContentLaws.{Starts, Next, fit-start, rows-start, ws-more, told-slots, told-long, behind, placed-at, told-at, flat-long, concat-append, row-given, row-none, summed}
 use Rattle.sheet.proofs.HeadLaws.{kept-at, short-kept, plain-value}
 
 -- ---- the next start tag

@@ -38,6 +38,9 @@ use plan::Kind;
 use plan::Span;
 use plan::open_row;
 
+// The names of the elements that have one of a single letter, by their numbers from 2 on.
+const LETTERS: [u8; 8] = [b'P', b'A', b'O', b'S', b'M', b'W', b'R', b'X'];
+
 // Where a head's values lie: how far they reach in the text, the patch, and the spans of U, l and the fields of P, A and O.
 pub struct HeadLaid {
     pub end: usize,
@@ -131,37 +134,31 @@ pub fn lay_values(
     m
 }
 
+// The kind of an element whose name is that one letter; 0 for any other letter.
+fn kind_lettered(b: u8) -> u8
+    ensures { λ r. ⌜ (r ≡ code (kindNamed (b ∷ []))) × (r < 10) ⌝ }
+{
+    let letters = LETTERS;
+    let mut i = 0;
+    while i < 8 {
+        if letters[i] == b {
+            return i as u8 + 2;
+        }
+        i += 1;
+    }
+    0
+}
+
 // The kind of an element by its name, which stands in the page from `from` to `to`; 0 for any other name.
 fn kind_named(page: &[u8], from: usize, to: usize) -> u8
     requires { ⌜ (from ≤ to) × (to ≤ length (now page)) ⌝ }
     ensures { λ r. ⌜ (r ≡ code (kindNamed (slice from to (now (page .entry))))) × (r < 10) ⌝ }
 {
+    if to - from == 1 {
+        return kind_lettered(page[from]);
+    }
     if spells(page, from, to, b"MP") {
         return 1;
-    }
-    if spells(page, from, to, b"P") {
-        return 2;
-    }
-    if spells(page, from, to, b"A") {
-        return 3;
-    }
-    if spells(page, from, to, b"O") {
-        return 4;
-    }
-    if spells(page, from, to, b"S") {
-        return 5;
-    }
-    if spells(page, from, to, b"M") {
-        return 6;
-    }
-    if spells(page, from, to, b"W") {
-        return 7;
-    }
-    if spells(page, from, to, b"R") {
-        return 8;
-    }
-    if spells(page, from, to, b"X") {
-        return 9;
     }
     0
 }

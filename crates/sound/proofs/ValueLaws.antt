@@ -6,7 +6,7 @@ use mathlib.Core.List.{List, [], _∷_, _++_}
 use Prim.Native.Nat.{ℕ, zero, suc, _+_, _-_, _/_, _%_, _≤_, _<_}
 use native.Mathlib.Omega.{arith}
 use lib.Dec.{eqb, ltb}
-use lib.ListN.{length, take, drop, getD, length-append}
+use lib.ListN.{length, take, drop, getD}
 use lib.Seq.{take-at}
 use borrow.Author.Tests.{eq-eqb, ne-eqb, le-leb, lt-leb}
 use Rattle.paper.specs.Lists.{if, same, isEmpty}
@@ -16,6 +16,7 @@ use Rattle.paper.specs.Rules.{keeps, isZero}
 use Rattle.paper.specs.Layout.{Span}
 use Rattle.paper.specs.Writing.{digitsOf, decimal, goodSlot}
 use Rattle.paper.proofs.Small.{no}
+use Rattle.paper.proofs.Rooms.{digits-most}
 use Rattle.fields.specs.Places.{ruleAt, fieldAt}
 use Rattle.fields.specs.Columns.{ruleColumn, mustColumn}
 use Rattle.fields.proofs.ColumnLaws.{rule-at, must-at, bit-one}
@@ -124,18 +125,10 @@ good-part f t a n x y e g = let z : x + y - x ≡ n = omega arith in ap (λ (m :
 
 -- ---- the digits of a package number
 
-digits-long : (k n : ℕ) → length (digitsOf k n) ≤ k
-digits-long zero n = omega arith
-digits-long (suc k) n = at (ltb n 10) (digits-long k (n / 10))
-  where
-    at : (b : Bool) → length (digitsOf k (n / 10)) ≤ k → length (if b ((48 + n) ∷ []) (digitsOf k (n / 10) ++ (48 + n % 10) ∷ [])) ≤ suc k
-    at true h = omega arith
-    at false h = omega (arith, length-append (digitsOf k (n / 10)) ((48 + n % 10) ∷ []))
-
 -- at most nine of them
 pub decimal-nine : (n : ℕ) → length (decimal n) ≤ 9
 decimal-nine zero = omega arith
-decimal-nine (suc n) = digits-long 9 (suc n)
+decimal-nine (suc n) = digits-most 9 (suc n)
 
 -- there are none just when the number is 0
 pub decimal-empty : (n : ℕ) → isEmpty (decimal n) ≡ eqb n 0

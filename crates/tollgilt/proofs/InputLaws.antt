@@ -12,14 +12,14 @@ use Rattle.paper.specs.Lists.{if}
 use Rattle.paper.specs.Reading as Paper
 use Rattle.paper.specs.Reading.{read}
 use Rattle.paper.specs.Listing.{onto, parted, refusalLines, answerLines, planlist}
-use Rattle.paper.specs.Calls.{listingRoom, inside, readAt, listCall}
+use Rattle.paper.specs.Calls.{listingRoom, inside, readAt}
 use Rattle.paper.proofs.CallLaws.{many, reads-pages, one}
 use Rattle.paper.proofs.Rooms.{answer-fits}
 use Rattle.markup.specs.Laid.{laid}
 use Rattle.listing.specs.Split.{startsFrom, lengths}
 use Rattle.listing.proofs.Splits.{Split, split-fronts, nine-or-fewer}
 use Rattle.reader.specs.Answers.{Numbers, numbersOf}
-use Rattle.tollgilt.specs.Promise.{Promised, answered}
+use Rattle.tollgilt.specs.Promise.{Promised}
 use Rattle.tollgilt.specs.Printed.{printed}
 use Rattle.tollgilt.specs.declared.list.Listed.{Listed}
 use Rattle.tollgilt.proofs.ListLaws.{Numbered, read-numbered}
@@ -52,10 +52,8 @@ unfolding read
 many-read f h = rw (le-leb 1 (length f) (omega arith), lt-leb (length f) 9 h)
 
 -- the pages that the input was split into, handed in, are read as the pages of the input
-pub split-read : (out s starts₀ lens₀ starts lens : List ℕ) (r : ℕ) → Split s starts₀ lens₀ starts lens r → 10 ≤ length starts → 25200 ≤ length out
-    → answered out s (take r starts) (take r lens) ≡ read (parted s)
-unfolding listCall
-split-read out s starts₀ lens₀ starts lens r w ten room = ap (λ (x : Bool). readAt x s (take r starts) (take r lens)) (le-leb listingRoom (length out) room) ∙ at (leb r 9) refl
+pub split-read : (s starts₀ lens₀ starts lens : List ℕ) (r : ℕ) → Split s starts₀ lens₀ starts lens r → 10 ≤ length starts → readAt true s (take r starts) (take r lens) ≡ read (parted s)
+split-read s starts₀ lens₀ starts lens r w ten = at (leb r 9) refl
   where
     lie : inside s (take r starts) (take r lens) ≡ true
     lie = let (a, b) = split-fronts s starts₀ lens₀ starts lens r w in rw (a, b) (first-inside 10 s 0 (parted s) (omega (arith, parted-spread s)))

@@ -35,9 +35,9 @@ use Rattle.tollgilt.specs.declared.list.Listed.{Listed}
 
 -- ---- a refusal has a number
 
--- the answer is a plan, or its number is 1 or more
+-- the answer is a plan, or its number is one of 1 to 12
 abbrev pub Numbered : Paper.Answer → Type 0
-Numbered (Paper.refusal n k i) = 1 ≤ n
+Numbered (Paper.refusal n k i) = (1 ≤ n) × (n ≤ 12)
 Numbered (Paper.plan p) = Unit {0}
 
 -- so it is of reading
@@ -45,7 +45,7 @@ pub read-numbered : (f : List (List ℕ)) → Numbered (read f)
 unfolding read
 read-numbered f = at (leb 1 (length f) && leb (length f) 9) refl
   where
-    by : (a : Paper.Answer) → ((n k i : ℕ) → a ≡ Paper.refusal n k i → 1 ≤ n) → Numbered a
+    by : (a : Paper.Answer) → ((n k i : ℕ) → a ≡ Paper.refusal n k i → (1 ≤ n) × (n ≤ 12)) → Numbered a
     by (Paper.refusal n k i) h = h n k i refl
     by (Paper.plan p) h = tt
 
@@ -53,8 +53,8 @@ read-numbered f = at (leb 1 (length f) && leb (length f) 9) refl
     at true e =
         let (x, y) = both (leb 1 (length f)) (leb (length f) 9) e in
         by (decide (judgeAll 1 f))
-        (λ n k i q. let r = two-to-twelve f n k i (leb-true 1 (length f) x) (leb-true (length f) 9 y) (ap (λ (b : Bool). if b (decide (judgeAll 1 f)) (Paper.refusal 1 0 0)) e ∙ q) in omega arith)
-    at false e = omega arith
+        (λ n k i q. let r = two-to-twelve f n k i (leb-true 1 (length f) x) (leb-true (length f) 9 y) (ap (λ (b : Bool). if b (decide (judgeAll 1 f)) (Paper.refusal 1 0 0)) e ∙ q) in (omega arith, omega arith))
+    at false e = (omega arith, omega arith)
 
 -- and of a call
 pub call-numbered : (room : Bool) (b ss ns : List ℕ) → Numbered (readAt room b ss ns)
@@ -63,10 +63,10 @@ call-numbered room b ss ns = at (room && (leb 1 (length ss) && (leb (length ss) 
   where
     at : (x : Bool) → Numbered (if x (read (pagesAt b ss ns)) (Paper.refusal 1 0 0))
     at true = read-numbered (pagesAt b ss ns)
-    at false = omega arith
+    at false = (omega arith, omega arith)
 
 -- the plan of a call is that of its pages
-call-plan : (room : Bool) (b ss ns : List ℕ) (p : Said.Plan) → readAt room b ss ns ≡ Paper.plan p → read (pagesAt b ss ns) ≡ Paper.plan p
+pub call-plan : (room : Bool) (b ss ns : List ℕ) (p : Said.Plan) → readAt room b ss ns ≡ Paper.plan p → read (pagesAt b ss ns) ≡ Paper.plan p
 unfolding readAt
 call-plan room b ss ns p = at (room && (leb 1 (length ss) && (leb (length ss) 9 && inside b ss ns)))
   where
@@ -81,13 +81,19 @@ pub no-room : (out b ss ns : List ℕ) → length out < 25200 → answered out b
 unfolding listCall readAt
 no-room out b ss ns h = rw (lt-leb listingRoom (length out) h)
 
--- with room enough, the call is answered as reading into rooms of 256 rows and 12,600 bytes of text
+-- 256 rows and 12,600 bytes of text are room enough for reading
+pub read-here : (b ss ns : List ℕ) → Reads.answered (replicate 12288 0) (replicate 12600 0) b ss ns ≡ readAt true b ss ns
+unfolding readCall
+read-here b ss ns = ap (λ (x : Bool). readAt x b ss ns) (ap (λ (n : ℕ). roomy (rowsLent n) (length (replicate {A = ℕ} 12600 0))) (length-replicate {A = ℕ} 12288 0) ∙ ap (roomy 256) (length-replicate {A = ℕ} 12600 0))
+
+-- with room enough, the call is answered as reading its pages
+pub list-call : (out b ss ns : List ℕ) → 25200 ≤ length out → answered out b ss ns ≡ readAt true b ss ns
+unfolding listCall
+list-call out b ss ns h = ap (λ (x : Bool). readAt x b ss ns) (le-leb listingRoom (length out) h)
+
+-- so as reading into such rooms
 pub same-call : (out b ss ns : List ℕ) → 25200 ≤ length out → Reads.answered (replicate 12288 0) (replicate 12600 0) b ss ns ≡ answered out b ss ns
-unfolding readCall listCall
-same-call out b ss ns h = ap (λ (x : Bool). readAt x b ss ns) (enough ∙ sym (le-leb listingRoom (length out) h))
-  where
-    enough : roomy (rowsLent (length (replicate {A = ℕ} 12288 0))) (length (replicate {A = ℕ} 12600 0)) ≡ true
-    enough = ap (λ (n : ℕ). roomy (rowsLent n) (length (replicate {A = ℕ} 12600 0))) (length-replicate {A = ℕ} 12288 0) ∙ ap (roomy 256) (length-replicate {A = ℕ} 12600 0)
+same-call out b ss ns h = read-here b ss ns ∙ sym (list-call out b ss ns h)
 
 -- ---- what is promised
 
@@ -124,7 +130,7 @@ call-given : (room : Bool) (b ss ns : List ℕ) → Given (readAt room b ss ns)
 call-given room b ss ns = at (readAt room b ss ns) refl (call-numbered room b ss ns)
   where
     at : (a : Paper.Answer) → readAt room b ss ns ≡ a → Numbered a → Given a
-    at (Paper.refusal n k i) e h = h
+    at (Paper.refusal n k i) e h = h .0
     at (Paper.plan p) e h = let q = call-plan room b ss ns p e in (read-sound (pagesAt b ss ns) p q .0, rooms (pagesAt b ss ns) p q .listing-fits)
 
 given-listable : (a : Paper.Answer) (out rows₀ text₀ rows text : List ℕ) (r : Reading) → Given a → Reads.Promised a rows₀ text₀ r rows text

@@ -7,9 +7,12 @@ use Rattle.paper.specs.Reading as Paper
 use Rattle.reader.specs.declared.answer.Answer.{Answer}
 use Rattle.reader.proofs.AnswerLaws.{told-once}
 use Rattle.tollgilt.specs.Promise.{Promised, Handed}
+use Rattle.tollgilt.specs.Fresh as Fresh
 use Rattle.tollgilt.specs.declared.list.Listed.{Listed}
+use Rattle.tollgilt.specs.declared.fresh.Fresh as Pages
 use Rattle.tollgilt.proofs.ListLaws.{result}
 use Rattle.tollgilt.proofs.InputLaws.{Prints}
+use Rattle.tollgilt.proofs.FreshInput.{FreshPrints}
 
 same-result : (r₁ r₂ : Listed) → r₁ .answer ≡ r₂ .answer → r₁ .length ≡ r₂ .length → r₁ ≡ r₂
 same-result r₁ r₂ a n = ap (λ (x : Answer). result x (r₁ .length)) a ∙ ap (result (r₂ .answer)) n
@@ -27,3 +30,16 @@ handed-once a out r₁ r₂ out₁ out₂ told₁ told₂ p q = (p .number-is �
 -- nor what is printed for an input
 pub printed-once : (out input out₁ out₂ : List ℕ) (r₁ r₂ : ℕ) → Prints out input out₁ r₁ → Prints out input out₂ r₂ → (r₁ ≡ r₂) × (out₁ ≡ out₂)
 printed-once out input out₁ out₂ r₁ r₂ p q = (p .0 ∙ sym (q .0), p .1 ∙ sym (q .1))
+
+-- no second result and no second room meets the promise of fresh pages
+pub fresh-once : (a : Fresh.Answer) (out : List ℕ) (r₁ r₂ : Pages.Fresh) (out₁ out₂ : List ℕ) → Fresh.Promised a out r₁ out₁ → Fresh.Promised a out r₂ out₂ → (r₁ ≡ r₂) × (out₁ ≡ out₂)
+fresh-once a out r₁ r₂ out₁ out₂ p q = (p .result-is ∙ sym (q .result-is), p .room-is ∙ sym (q .room-is))
+
+-- nor that of their border
+pub fresh-handed-once : (a : Fresh.Answer) (out : List ℕ) (r₁ r₂ : ℕ) (out₁ out₂ told₁ told₂ : List ℕ) → Fresh.Handed a out r₁ out₁ told₁ → Fresh.Handed a out r₂ out₂ told₂
+    → (r₁ ≡ r₂) × (out₁ ≡ out₂) × (told₁ ≡ told₂)
+fresh-handed-once a out r₁ r₂ out₁ out₂ told₁ told₂ p q = (p .number-is ∙ sym (q .number-is), p .room-is ∙ sym (q .room-is), p .told-is ∙ sym (q .told-is))
+
+-- nor what planfresh prints for an input
+pub fresh-printed-once : (out input out₁ out₂ : List ℕ) (r₁ r₂ : ℕ) → FreshPrints out input out₁ r₁ → FreshPrints out input out₂ r₂ → (r₁ ≡ r₂) × (out₁ ≡ out₂)
+fresh-printed-once out input out₁ out₂ r₁ r₂ p q = (p .0 ∙ sym (q .0), p .1 ∙ sym (q .1))

@@ -1,3 +1,4 @@
--- What listing promises (Promise), and what is printed for an input of planlist (Printed).
+-- What listing promises (Promise), what writing pages afresh promises (Fresh), and what is printed for an input of planlist and of planfresh (Printed).
 pub mod Promise
+pub mod Fresh
 pub mod Printed

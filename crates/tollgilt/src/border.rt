@@ -1,5 +1,7 @@
 // Border: the functions that programs in C and Rust call. Only numbers and byte ranges cross it; a slice crosses as a pointer and a length.
+ghost use Rattle.tollgilt.specs.Fresh as Fresh;
 ghost use Rattle.tollgilt.specs.Promise.{Handed, answered};
+use crate::fresh::fresh_pages;
 use crate::list::list_pages;
 use reader::answer::refusal_number;
 use reader::answer::refusal_page;
@@ -23,4 +25,36 @@ pub extern "C" fn tollgilt_list<'a>(
     let place = refusal_place(answer);
     *told = [listed.length, page, place];
     refusal_number(answer)
+}
+
+// Writes the plan of a call's pages as fresh pages into `out`, as `fresh_pages` does. Returns the number of the refusal, 0 for pages. Tells the number of pages,
+// the page and the place of the refusal, and the nine lengths of the pages: number and lengths are 0 for a refusal, page and place are 0 for pages, and the
+// lengths of pages that are not there are 0.
+#[no_mangle]
+pub extern "C" fn tollgilt_fresh<'a>(
+    buffer: &'a [u8],
+    starts: &'a [usize],
+    lens: &'a [usize],
+    out: &mut [u8],
+    told: &mut [u32; 12],
+) -> u32
+    ensures { λ r. ⌜ Fresh.Handed (Fresh.answered (now (out .entry)) (now (buffer .entry)) (now (starts .entry)) (now (lens .entry))) (now (out .entry)) r (now (out .exit)) (now (told .exit)) ⌝ }
+{
+    let fresh = fresh_pages(buffer, starts, lens, out);
+    let l = fresh.lens;
+    *told = [
+        fresh.pages,
+        fresh.page,
+        fresh.place,
+        l[0],
+        l[1],
+        l[2],
+        l[3],
+        l[4],
+        l[5],
+        l[6],
+        l[7],
+        l[8],
+    ];
+    fresh.number
 }

@@ -26,10 +26,10 @@ use Rattle.plan.specs.Records.{paperKind, codeKind, doseIn, paperDose, codeSpan
 use Rattle.plan.specs.declared.Times.{Times}
 use Rattle.plan.specs.declared.Kind as Code
 use Rattle.plan.specs.declared.Dose.the-variants.{Scheme, Free, Unstated}
-use Rattle.plan.proofs.Doses.{shows, dose-is}
+use Rattle.plan.proofs.Doses.{shows, each-span, dose-is}
 use Rattle.sound.specs.Sound.{recordSound}
 use Rattle.listing.specs.Numbered.{spanAt, spansAt, fieldsFrom, spanPlace}
-use Rattle.listing.proofs.Rowed.{part-of-row, each-span, spans-inside, kind-is, row-fields}
+use Rattle.listing.proofs.Rowed.{part-of-row, spans-inside, kind-is, row-fields}
 use Rattle.writer.specs.Spelling.{rowText}
 use Rattle.writer.specs.Tags.{attribute, fieldsText, tagText, doseText, doseWithin, substanceText, endText, medicationText}
 use Rattle.writer.proofs.Spelled.{attrs-step, attrs-are, fields-parted, key-name, span-of, spans-parted}
@@ -234,7 +234,7 @@ unfolding inText
 dose-inside t l w = pick (eqb (spanIn l 7 .len) 0) (absent (spanIn l 3) && (absent (spanIn l 4) && (absent (spanIn l 5) && absent (spanIn l 6))))
   where
     lies : (j : ℕ) → j < 19 → within (length t) (spanIn l j) ≡ true
-    lies j h = ap (λ (k : ℕ). within (length t) (spanIn l k)) (sym (zero-add j)) ∙ each-span (within (length t)) l 19 0 j h w
+    lies j h = ap (λ (k : ℕ). within (length t) (spanIn l k)) (sym (zero-add j)) ∙ each-span (within (length t)) 19 0 l w j h
 
     pick : (b c : Bool) → doseWithin (length t) (if b (if c Unstated (Scheme (timesIn l))) (Free (codeSpanIn l 7))) ≡ true
     pick true true = refl

@@ -4,15 +4,13 @@ ghost use mathlib.Core.Bool.{true};
 ghost use mathlib.Core.List.{[], map};
 ghost use Prim.Native.Nat.{_+_, _*_, _≤_};
 ghost use lib.ListN.{length, take};
-ghost use Rattle.paper.specs.Fields.{S, is};
 ghost use Rattle.paper.specs.Writing.{page};
 ghost use Rattle.plan.specs.Numbers.{recordAt, showRow, showRows, showHead};
-ghost use Rattle.plan.specs.Records.{paperKind};
 ghost use Rattle.sound.specs.Sound.{headSound, recordSound, recordsSound};
 ghost use Rattle.writer.specs.Cutting.{measureOf};
+use crate::spelling::heads;
 use crate::spelling::lay_page;
 use crate::spelling::lay_row;
-use plan::Kind;
 use plan::Plan;
 use plan::kind_at;
 
@@ -24,19 +22,6 @@ pub fn head_size(plan: Plan, rows: &[u32], text: &[u8], scratch: &mut [u8]) -> u
     lay_page(scratch, 0, plan, 1, 1, rows, 0, 0, text)
 }
 
-// Whether a row of that kind is a heading.
-fn is_heading(kind: Kind) -> bool
-    ensures { λ r. ⌜ r ≡ is (paperKind kind) S ⌝ }
-{
-    match kind {
-        Kind::Heading => true,
-        Kind::Medication => false,
-        Kind::Recipe => false,
-        Kind::Note => false,
-        Kind::Unknown => false,
-    }
-}
-
 // The number of row i for the cut: twice what it adds to a page, and one more for a heading. A heading brings the end of its section with it.
 fn row_measure(rows: &[u32], i: usize, text: &[u8], scratch: &mut [u8]) -> u32
     requires { ⌜ ((i + 1) * 48 ≤ length (now rows)) × (recordSound (now text) (recordAt (now rows) i) ≡ true) × (8192 ≤ length (now scratch)) ⌝ }
@@ -44,7 +29,7 @@ fn row_measure(rows: &[u32], i: usize, text: &[u8], scratch: &mut [u8]) -> u32
 {
     let size = lay_row(scratch, 0, rows, i, text);
     let kind = kind_at(rows, i);
-    if is_heading(kind) {
+    if heads(kind) {
         return (size as u32 + 4) * 2 + 1;
     }
     size as u32 * 2

@@ -27,9 +27,8 @@ use markup::values::lay;
 use plan::Dose;
 use plan::Kind;
 use plan::Plan;
-use plan::dose_at;
 use plan::kind_at;
-use plan::package_at;
+use plan::row_at;
 
 // Places in the table: U of MP, and the first fields of P, A, O and S; of M a, the four times of day, the free text and du; the first fields of W, R and X.
 const MP_U: usize = 2;
@@ -139,14 +138,14 @@ fn lay_medication(
         × (at + length (medicationText (now text) (now rows) i) ≤ length (now out)) ⌝ }
     ensures { λ r. ⌜ Wrote (now (out .entry)) (now (out .exit)) at r (medicationText (now (text .entry)) (now (rows .entry)) i) ⌝ }
 {
+    let row = row_at(rows, i);
+    let dose = row.dose;
     let first = i * Plan::STRIDE + 2;
     let behind = first + 16;
     let substances = first + 26;
     let a = lay(out, at, b"<M");
-    let number = package_at(rows, i);
-    let b = lay_number(out, a, number);
+    let b = lay_number(out, a, row.package);
     let c = lay_fields(out, b, keys, M_A, 3, text, rows, first);
-    let dose = dose_at(rows, i);
     let d = lay_dose(out, c, keys, dose, text);
     let e = lay_fields(out, d, keys, M_DU, 5, text, rows, behind);
     lay_end(out, e, keys, rows, substances, text)
@@ -252,7 +251,7 @@ fn lay_measures(
     lay_tag(out, at, b"<O", keys, O_AI, 7, text, numbers, from, b"/>")
 }
 
-// Writes page a of z up to its rows, with the keys of the table.
+// Writes page a of z up to its rows.
 fn lay_front(
     out: &mut [u8],
     at: usize,
@@ -277,20 +276,8 @@ fn lay_front(
     lay_measures(out, o, keys, text, &numbers, 40)
 }
 
-// Writes page a of z up to its rows.
-pub fn lay_head(out: &mut [u8], at: usize, plan: Plan, a: u8, z: u8, text: &[u8]) -> usize
-    requires { ⌜ (headSound (now text) plan ≡ true)
-        × (a ≤ 9)
-        × (z ≤ 9)
-        × (at + length (headText (showHead (now text) plan) a z) ≤ length (now out)) ⌝ }
-    ensures { λ r. ⌜ Wrote (now (out .entry)) (now (out .exit)) at r (headText (showHead (now (text .entry)) plan) a z) ⌝ }
-{
-    let keys = keys();
-    lay_front(out, at, &keys, plan, a, z, text)
-}
-
 // Whether a row of this kind is a heading.
-fn heads(kind: Kind) -> bool
+pub fn heads(kind: Kind) -> bool
     ensures { λ r. ⌜ r ≡ is (paperKind kind) S ⌝ }
 {
     match kind {

@@ -3,11 +3,12 @@
 // The letters of a field are taken from the table's keys, which the caller copies once and lends.
 ghost use mathlib.Core.Path.{_≡_};
 ghost use mathlib.Core.Bool.{true};
+ghost use mathlib.Core.List.{[], _∷_};
 ghost use Prim.Native.Nat.{_+_, _*_, _≤_};
 ghost use lib.ListN.{length};
 ghost use lib.Seq.{slice};
 ghost use Rattle.paper.specs.Lists.{bytes, every};
-ghost use Rattle.paper.specs.Values.{escape};
+ghost use Rattle.paper.specs.Values.{esc, escape};
 ghost use Rattle.paper.specs.Layout.{shown};
 ghost use Rattle.paper.specs.Writing.{decimal};
 ghost use Rattle.fields.specs.Places.{nameOf};
@@ -20,6 +21,49 @@ use fields::names::lay_name;
 use fields::numbers;
 use markup::values;
 use plan::Span;
+
+// 0 for a byte of a value that is spelled as it is, else 1.
+fn grows(b: u8) -> u8
+    ensures { λ r. ⌜ (r ≡ 0 → esc b ≡ b ∷ []) ⌝ }
+{
+    if b == 34 {
+        return 1;
+    }
+    if b == 38 {
+        return 1;
+    }
+    if b == 60 {
+        return 1;
+    }
+    0
+}
+
+// Whether the value from `from` up to `to` is spelled as it is. No byte ends the look early, so that many can be taken at once.
+fn plain(text: &[u8], from: usize, to: usize) -> bool
+    requires { ⌜ (from ≤ to) × (to ≤ length (now text)) ⌝ }
+    ensures { λ r. ⌜ (r ≡ true → escape (slice from to (now (text .entry))) ≡ slice from to (now (text .entry))) ⌝ }
+{
+    let mut grown = 0u8;
+    let mut i = from;
+    while i < to {
+        grown = grown | grows(text[i]);
+        i += 1;
+    }
+    grown == 0
+}
+
+// Writes the value that stands from `from` up to `to` in the text as it is spelled; most values are copied.
+fn lay_value(out: &mut [u8], at: usize, text: &[u8], from: usize, to: usize) -> usize
+    requires { ⌜ (from ≤ to)
+        × (to ≤ length (now text))
+        × (at + length (escape (slice from to (now text))) ≤ length (now out)) ⌝ }
+    ensures { λ r. ⌜ Wrote (now (out .entry)) (now (out .exit)) at r (escape (slice from to (now (text .entry)))) ⌝ }
+{
+    if plain(text, from, to) {
+        return values::lay(out, at, &text[from..to]);
+    }
+    values::spell(text, from, to, out, at)
+}
 
 // Writes an attribute: a blank, the letters of a key, and the value that stands from `from` up to `to` in the text, spelled between double quotes.
 fn lay_attribute(
@@ -38,7 +82,7 @@ fn lay_attribute(
     out[at] = 32;
     let a = lay_name(letters, out, at + 1);
     let b = values::lay(out, a, b"=\"");
-    let c = values::spell(text, from, to, out, b);
+    let c = lay_value(out, b, text, from, to);
     out[c] = 34;
     c + 1
 }

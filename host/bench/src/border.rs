@@ -17,6 +17,16 @@ extern "C" {
         text_length: usize,
         told: *mut [u32; 58],
     ) -> u32;
+    fn probe_write(
+        plan: *const [u32; 56],
+        rows: *const u32,
+        rows_length: usize,
+        text: *const u8,
+        text_length: usize,
+        out: *mut u8,
+        room: usize,
+        told: *mut [u32; 11],
+    ) -> u32;
     fn tollgilt_list(
         buffer: *const u8,
         size: usize,
@@ -27,6 +37,17 @@ extern "C" {
         out: *mut u8,
         room: usize,
         told: *mut [u32; 3],
+    ) -> u32;
+    fn tollgilt_fresh(
+        buffer: *const u8,
+        size: usize,
+        starts: *const usize,
+        starts_count: usize,
+        lens: *const usize,
+        lens_count: usize,
+        out: *mut u8,
+        room: usize,
+        told: *mut [u32; 12],
     ) -> u32;
     pub fn peer_pugixml(page: *const u8, length: usize) -> i32;
     pub fn peer_expat(page: *const u8, length: usize) -> i32;
@@ -79,19 +100,23 @@ impl Call {
     }
 }
 
-/// The rooms that a caller lends.
+/// The rooms that a caller lends, and the plan in numbers that was read last: its patch, its number of rows and the spans of its head.
 pub struct Rooms {
+    plan: [u32; 56],
     rows: Vec<u32>,
     text: Vec<u8>,
     lines: Vec<u8>,
+    pages: Vec<u8>,
 }
 
 impl Rooms {
     pub fn new() -> Self {
         Self {
+            plan: [0; 56],
             rows: vec![0; 256 * 48],
             text: vec![0; 12_600],
             lines: vec![0; 25_200],
+            pages: vec![0; 12_600],
         }
     }
 
@@ -114,7 +139,27 @@ impl Rooms {
                 &mut told,
             )
         };
+        self.plan.copy_from_slice(&told[2..]);
         told[3] as usize
+    }
+
+    /// Writes the plan that was read: the length of all fresh pages, 0 for a refusal.
+    pub fn write(&mut self) -> usize {
+        let mut told = [0; 11];
+        // SAFETY: each pair of arguments is one slice; the pages are written within their length, `told` has the eleven numbers that are written.
+        unsafe {
+            probe_write(
+                &self.plan,
+                self.rows.as_ptr(),
+                self.rows.len(),
+                self.text.as_ptr(),
+                self.text.len(),
+                self.pages.as_mut_ptr(),
+                self.pages.len(),
+                &mut told,
+            )
+        };
+        told[2..].iter().sum::<u32>() as usize
     }
 
     /// Lists the pages: the length of the listing, 0 for a refusal.
@@ -135,5 +180,25 @@ impl Rooms {
             )
         };
         told[0] as usize
+    }
+
+    /// Writes the pages afresh: the length of all fresh pages, 0 for a refusal.
+    pub fn fresh(&mut self, call: &Call) -> usize {
+        let mut told = [0; 12];
+        // SAFETY: each pair of arguments is one slice; the pages are written within their length, `told` has the twelve numbers that are written.
+        unsafe {
+            tollgilt_fresh(
+                call.buffer.as_ptr(),
+                call.buffer.len(),
+                call.starts.as_ptr(),
+                call.starts.len(),
+                call.lens.as_ptr(),
+                call.lens.len(),
+                self.pages.as_mut_ptr(),
+                self.pages.len(),
+                &mut told,
+            )
+        };
+        told[3..].iter().sum::<u32>() as usize
     }
 }

@@ -44,10 +44,16 @@ fn look_up(pages: &[Vec<u8>]) -> usize {
     pages.iter().map(each).sum()
 }
 
+/// The length of all fresh pages by the second program, 0 for a refusal.
+fn fresh_length(pages: &[&[u8]]) -> usize {
+    let written = second::read(pages).and_then(|plan| second::write(&plan));
+    written.map_or(0, |pages| pages.iter().map(Vec::len).sum())
+}
+
 /// Every work on these pages. Each is seen to answer rightly before it is measured.
 fn works<'a>(pages: &'a [Vec<u8>], call: &'a Call) -> Vec<Work<'a>> {
     let views: Vec<&[u8]> = pages.iter().map(Vec::as_slice).collect();
-    let again = views.clone();
+    let (again, afresh) = (views.clone(), views.clone());
     let peer = |parse: Peer| {
         move || {
             pages
@@ -56,7 +62,9 @@ fn works<'a>(pages: &'a [Vec<u8>], call: &'a Call) -> Vec<Work<'a>> {
                 .sum::<usize>()
         }
     };
-    let (mut reading, mut listing) = (border::Rooms::new(), border::Rooms::new());
+    let rooms = || border::Rooms::new();
+    let (mut reading, mut listing, mut writing, mut fresh) = (rooms(), rooms(), rooms(), rooms());
+    writing.read(call);
     let mut all: Vec<Work<'a>> = Vec::new();
     let mut add =
         |name, words, run: Box<dyn FnMut() -> usize + 'a>| all.push(Work { name, words, run });
@@ -91,6 +99,16 @@ fn works<'a>(pages: &'a [Vec<u8>], call: &'a Call) -> Vec<Work<'a>> {
         Box::new(move || listing.list(call)),
     );
     add(
+        "write",
+        "**writing** alone: the plan as read, to fresh pages",
+        Box::new(move || writing.write()),
+    );
+    add(
+        "fresh",
+        "**fresh pages**: reading and writing",
+        Box::new(move || fresh.fresh(call)),
+    );
+    add(
         "second-read",
         "the second program's reading, in Rust, unproved",
         Box::new(move || second::read(&views).map_or(0, |plan| plan.rows.len())),
@@ -99,6 +117,11 @@ fn works<'a>(pages: &'a [Vec<u8>], call: &'a Call) -> Vec<Work<'a>> {
         "second-list",
         "the second program's listing",
         Box::new(move || second::read(&again).map_or(0, |plan| second::listing(&plan).len())),
+    );
+    add(
+        "second-fresh",
+        "the second program's fresh pages",
+        Box::new(move || fresh_length(&afresh)),
     );
     add(
         "pugixml",
@@ -118,17 +141,20 @@ fn works<'a>(pages: &'a [Vec<u8>], call: &'a Call) -> Vec<Work<'a>> {
     all
 }
 
-/// Whether reading and listing, the second program's and every peer's answer are what they must be, so that no refusal is measured.
+/// Whether reading, listing and writing, the second program's and every peer's answer are what they must be, so that no refusal is measured.
 fn right(works: &mut [Work], pages: &[Vec<u8>]) -> bool {
     let views: Vec<&[u8]> = pages.iter().map(Vec::as_slice).collect();
     let plan = second::read(&views).expect("the pages are a plan");
     let (rows, lines) = (plan.rows.len(), second::listing(&plan).len());
+    let fresh = fresh_length(&views);
+    assert!(fresh > 0, "the plan fits on nine fresh pages");
     works.iter_mut().all(|work| {
         let answer = (work.run)();
         match work.name {
             "judge" => answer == 0,
             "read" | "second-read" => answer == rows,
             "list" | "second-list" => answer == lines,
+            "write" | "fresh" | "second-fresh" => answer == fresh,
             "pugixml" | "expat" | "libxml2" => answer == pages.len(),
             "scan" => answer == 2_000 * pages.len(),
             "bytes" => answer == pages.iter().map(Vec::len).sum::<usize>(),

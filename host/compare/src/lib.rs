@@ -1,7 +1,11 @@
 //! The proved layers as safe Rust functions. A slice crosses the border as two arguments, its start and its length.
 
+pub mod cells;
+pub mod collecting;
+pub mod numbers;
 pub mod rounds;
 pub mod trial;
+pub mod writing;
 
 mod border {
     extern "C" {

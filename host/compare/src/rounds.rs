@@ -2,13 +2,13 @@
 
 use inputs::{bytes_like_page, case, raw_value, value_near, Random};
 use second::class::{allowed, class};
-use second::layout::{Numbers, RowNumbers, Span, SUBSTANCES};
 use second::markup::well_formed;
 use second::table::{Element, Field, Name, Rule, ELEMENTS};
 use second::tags::{outermost, Tag};
 use second::value::{read_value, spell};
 use second::PAGE_BYTES;
 
+use crate::numbers::{head, record};
 use crate::{Event, Reading};
 
 /// What stands in a room before a call, and must stand there afterwards wherever nothing was laid.
@@ -255,37 +255,4 @@ fn reading(title: &str, pages: &[Vec<u8>], found: &mut Vec<String>) {
             given.refusal, expected.refusal
         ));
     }
-}
-
-fn numbers_of(spans: &[Span]) -> impl Iterator<Item = u32> + '_ {
-    spans
-        .iter()
-        .flat_map(|span| [span.start as u32, span.length as u32])
-}
-
-/// The patch, the number of rows, and the 27 spans of the head: U and l of MP, then P, A and O.
-pub(crate) fn head(numbers: &Numbers) -> Vec<u32> {
-    let parts = &numbers.head.parts;
-    let spans = [&parts[0][2..4], &parts[1], &parts[2], &parts[3]].concat();
-    let first = [u32::from(numbers.head.patch), numbers.rows.len() as u32];
-    first.into_iter().chain(numbers_of(&spans)).collect()
-}
-
-/// A row's record: its kind, its package number, its spans, and 0 up to 48 numbers. The package number's field has no span.
-pub(crate) fn record(row: &RowNumbers) -> Vec<u32> {
-    let (kind, own) = match row.kind {
-        b'H' => (1, &row.parts[0][..]),
-        b'M' => (2, &row.parts[1][1..]),
-        b'R' => (3, &row.parts[2][..]),
-        _ => (4, &row.parts[3][..]),
-    };
-    let mut record = vec![kind, row.package];
-    record.extend(numbers_of(own));
-    for part in &row.parts[SUBSTANCES..] {
-        if kind == 2 {
-            record.extend(numbers_of(part));
-        }
-    }
-    record.resize(48, 0);
-    record
 }

@@ -5,7 +5,7 @@ use std::path::Path;
 use std::process::{Command, Stdio};
 use std::thread;
 
-use crate::rounds::{head, record};
+use crate::numbers::{head, record};
 
 /// A command for the program, by what it is called in a failure, and what the program must print for it.
 pub struct Trial {

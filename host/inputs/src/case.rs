@@ -142,7 +142,7 @@ fn kind(random: &mut Random) -> (&'static str, Making) {
 }
 
 /// A plan with only as many of its rows as nine pages can hold.
-fn fitting_plan(make: fn(&mut Random) -> Plan, random: &mut Random) -> Plan {
+pub(crate) fn fitting_plan(make: fn(&mut Random) -> Plan, random: &mut Random) -> Plan {
     loop {
         let mut plan = make(random);
         if let Some(rows) = cut::most_rows(&plan) {
@@ -153,7 +153,7 @@ fn fitting_plan(make: fn(&mut Random) -> Plan, random: &mut Random) -> Plan {
 }
 
 /// The pages of a fitting plan in some cut, in their order.
-fn sheets(plan: &Plan, manner: Manner, random: &mut Random) -> Vec<Element> {
+pub(crate) fn sheets(plan: &Plan, manner: Manner, random: &mut Random) -> Vec<Element> {
     let cut = Cut::random(random);
     cut::pages(plan, cut, manner, random)
         .or_else(|| cut::pages(plan, Cut::FULL, manner, random))
@@ -186,7 +186,7 @@ fn whole(
 }
 
 /// A plan to be damaged: small ones often, since damage then hits every part of them.
-fn any_plan(random: &mut Random) -> Plan {
+pub(crate) fn any_plan(random: &mut Random) -> Plan {
     match random.below(10) {
         0..=3 => small_plan(random),
         4 => long_plan(random),
@@ -257,13 +257,13 @@ fn garbage(random: &mut Random) -> Vec<Vec<u8>> {
     pages
 }
 
-fn usual_plan(random: &mut Random) -> Plan {
+pub(crate) fn usual_plan(random: &mut Random) -> Plan {
     let rows = random.between(0, 14);
     let shape = Shape::usual(rows, random);
     Plan::random(shape, random)
 }
 
-fn small_plan(random: &mut Random) -> Plan {
+pub(crate) fn small_plan(random: &mut Random) -> Plan {
     let fullness = Fullness {
         ink: Ink::Mixed,
         longest: 0,
@@ -281,7 +281,7 @@ fn small_plan(random: &mut Random) -> Plan {
     )
 }
 
-fn long_plan(random: &mut Random) -> Plan {
+pub(crate) fn long_plan(random: &mut Random) -> Plan {
     let ink = *random.pick(&[Ink::Plain, Ink::Mixed]);
     let head = Fullness {
         ink,
@@ -306,7 +306,7 @@ fn long_plan(random: &mut Random) -> Plan {
 }
 
 /// Around 256 rows, nearly all of them the smallest notes.
-fn many_rows(random: &mut Random) -> Plan {
+pub(crate) fn many_rows(random: &mut Random) -> Plan {
     let head = Fullness {
         ink: Ink::Plain,
         longest: 0,
@@ -337,7 +337,7 @@ fn many_rows(random: &mut Random) -> Plan {
 }
 
 /// Values of double quotes, which fit on pages in single quotes and may not fit on fresh ones.
-fn quotes_plan(random: &mut Random) -> Plan {
+pub(crate) fn quotes_plan(random: &mut Random) -> Plan {
     let quotes = Fullness {
         ink: Ink::Quotes,
         longest: 40,
@@ -368,7 +368,7 @@ fn quotes_plan(random: &mut Random) -> Plan {
 }
 
 /// As many rows as nine pages can hold.
-fn full_plan(random: &mut Random) -> Plan {
+pub(crate) fn full_plan(random: &mut Random) -> Plan {
     let mut shape = Shape::usual(150, random);
     shape.row.longest = *random.pick(&[5, 30, 60]);
     shape.row.usual = 30;

@@ -8,10 +8,13 @@ pub mod cut;
 pub mod damage;
 pub mod disguise;
 pub mod fields;
+pub mod fill;
 pub mod garbage;
+pub mod numbers;
 pub mod plan;
 pub mod random;
 pub mod references;
+pub mod sequence;
 pub mod spelling;
 pub mod values;
 pub mod vectors;
@@ -19,11 +22,13 @@ pub mod vectors;
 pub use case::{case, kinds, meant_listing, meant_refusal, Case};
 pub use fields::FIELDS;
 pub use garbage::bytes_like_page;
+pub use numbers::{numbers, Numbers};
 pub use random::Random;
 pub use references::raw_value;
+pub use sequence::{sequence, Step};
 pub use values::value_near;
 
-/// The pages with one zero byte between them, as the program planlist reads them.
+/// The pages with one zero byte between them, as the programs planlist and planfresh read them.
 pub fn joined(pages: &[Vec<u8>]) -> Vec<u8> {
     pages.join(&0)
 }

@@ -26,7 +26,7 @@ pub mod writer;
 pub use collector::{Answer, Collector};
 pub use join::read;
 pub use layout::{lay, write_numbers};
-pub use listing::{listing, planlist, refusal_lines};
+pub use listing::{listing, planfresh, planlist, refusal_lines};
 pub use plan::{Head, Plan, Refusal, Row, RowKind, Values};
 pub use writer::{cut_exists, write};
 
@@ -42,5 +42,5 @@ pub const TEXT_ROOM: usize = 12_600;
 pub const PAGE_ROOM: usize = 12_600;
 /// The room for a listing of pages.
 pub const LISTING_ROOM: usize = 25_200;
-/// The bytes that planlist reads at most.
+/// The bytes that planlist and planfresh read at most.
 pub const INPUT_BYTES: usize = 12_609;

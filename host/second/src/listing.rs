@@ -1,8 +1,10 @@
-//! The listing of a plan, the three lines of a refusal, and the program planlist.
+//! The listing of a plan, the three lines of a refusal, and the programs planlist and
+//! planfresh.
 
 use crate::join::read;
 use crate::plan::{present, Plan, Refusal};
 use crate::table::{entry, Element, Name};
+use crate::writer::write;
 use crate::INPUT_BYTES;
 
 /// The listing: the present head fields, then each row with its fields, then the row count.
@@ -57,6 +59,15 @@ pub fn split(input: &[u8]) -> Vec<&[u8]> {
 pub fn planlist(input: &[u8]) -> Vec<u8> {
     match read(&split(input)) {
         Ok(plan) => listing(&plan),
+        Err(refusal) => refusal_lines(&refusal),
+    }
+}
+
+/// What planfresh prints for this input, which is split as planlist's: the fresh pages with
+/// one zero byte between them, or the three lines of the refusal.
+pub fn planfresh(input: &[u8]) -> Vec<u8> {
+    match read(&split(input)).and_then(|plan| write(&plan)) {
+        Ok(pages) => pages.join(&0),
         Err(refusal) => refusal_lines(&refusal),
     }
 }

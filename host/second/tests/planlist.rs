@@ -1,9 +1,9 @@
-//! How planlist splits its input, and what it prints.
+//! How planlist and planfresh split their input, and what they print.
 
 mod sample;
 use sample::*;
 use second::listing::split;
-use second::{listing, planlist, refusal_lines, Refusal};
+use second::{listing, planfresh, planlist, refusal_lines, Refusal};
 
 /// The lines of a refusal.
 fn refused(number: u8, page: usize, place: usize) -> Vec<u8> {
@@ -90,4 +90,24 @@ fn a_refusal_is_three_lines() {
         refusal_lines(&Refusal::new(4, 9, 1_400)),
         b"refused=4\npage=9\nplace=1400\n"
     );
+}
+
+#[test]
+fn planfresh_prints_fresh_pages_with_one_zero_byte_between_them() {
+    let notes = format!("<X t='{}'/>", "a".repeat(200)).repeat(4);
+    let pages = [1, 2, 3].map(|a| bytes(&numbered(a, 3, &format!("<S>{notes}</S>"))));
+    let views = pages.each_ref().map(Vec::as_slice);
+    let fresh = second::write(&second::read(&views).expect("a plan")).expect("fresh pages");
+    let printed = planfresh(&pages.join(&0));
+    assert_eq!(split(&printed), fresh);
+    assert_eq!(planfresh(&printed), printed);
+}
+
+#[test]
+fn planfresh_refuses_as_planlist_does_and_with_14() {
+    assert_eq!(planfresh(b""), refused(2, 1, 0));
+    assert_eq!(planfresh(&[0; 20_000]), refused(1, 0, 0));
+    let quotes = "\"".repeat(200);
+    let long = bytes(&page(&format!("<S><R t='{quotes}' x='{quotes}'/></S>")));
+    assert_eq!(planfresh(&long), refused(14, 0, 1));
 }

@@ -1,7 +1,8 @@
-//! Joins the sheets of a German medication plan (BMP 2.7) and lists the plan, by the proved library.
+//! Joins the sheets of a German medication plan (BMP 2.7), lists the plan and writes it afresh, by the proved library.
 //!
 //! A sheet's barcode holds one page: 1 to 1,400 bytes of XML in Latin-1. One to nine pages make a plan. [`list`] joins them by what they say, in
-//! whatever order they are handed in, and gives the plan as key=value lines, or a [`Refusal`] that names the page and the place.
+//! whatever order they are handed in, and gives the plan as key=value lines, or a [`Refusal`] that names the page and the place. [`fresh`] gives the plan as
+//! fresh pages instead: one spelling for each plan, on as few pages as can hold it.
 //!
 //! ```
 //! let page = br#"<MP v="027" U="00112233445566778899AABBCCDDEEFF"><P g="Ida" f="Kern" b="19510704"/><A n="Praxis Holm"
@@ -37,7 +38,24 @@ pub const PAGE_BYTES: usize = 1_400;
 /// The room that a listing asks for: it is enough for any plan.
 pub const LISTING_ROOM: usize = 25_200;
 
+/// The room that fresh pages ask for: it is enough for nine full ones.
+pub const PAGE_ROOM: usize = 12_600;
+
 mod border {
+    /// A function of the library: buffer, starts, lengths and room, each as a pointer and a size, and the numbers that it tells, of which the second and
+    /// third are the page and the place of a refusal. It answers the number of the refusal, or 0.
+    pub type Function<const TOLD: usize> = unsafe extern "C" fn(
+        *const u8,
+        usize,
+        *const usize,
+        usize,
+        *const usize,
+        usize,
+        *mut u8,
+        usize,
+        *mut [u32; TOLD],
+    ) -> u32;
+
     extern "C" {
         #[allow(clippy::too_many_arguments)]
         pub fn tollgilt_list(
@@ -51,6 +69,47 @@ mod border {
             room: usize,
             told: *mut [u32; 3],
         ) -> u32;
+        #[allow(clippy::too_many_arguments)]
+        pub fn tollgilt_fresh(
+            buffer: *const u8,
+            size: usize,
+            starts: *const usize,
+            starts_count: usize,
+            lens: *const usize,
+            lens_count: usize,
+            out: *mut u8,
+            room: usize,
+            told: *mut [u32; 12],
+        ) -> u32;
+    }
+}
+
+/// Calls a function of the library on slices: the numbers that it tells, or the refusal.
+fn call<const TOLD: usize>(
+    function: border::Function<TOLD>,
+    buffer: &[u8],
+    starts: &[usize],
+    lens: &[usize],
+    out: &mut [u8],
+) -> Result<[u32; TOLD], Refusal> {
+    let mut told = [0; TOLD];
+    // SAFETY: each pair of arguments is one slice. The library writes to `out` and `told` alone, within their lengths, and keeps no pointer.
+    let number = unsafe {
+        function(
+            buffer.as_ptr(),
+            buffer.len(),
+            starts.as_ptr(),
+            starts.len(),
+            lens.as_ptr(),
+            lens.len(),
+            out.as_mut_ptr(),
+            out.len(),
+            &mut told,
+        )
+    };
+    match number {
+        0 => Ok(told),
+        _ => Err(Refusal::told(number, told[1], told[2])),
     }
 }
 
@@ -69,20 +128,22 @@ mod border {
 ///
 /// A [`Refusal`] where the pages are no plan; also for no page, and for more than nine.
 pub fn list(pages: &[&[u8]]) -> Result<Vec<u8>, Refusal> {
-    let buffer = pages.concat();
-    let lens: Vec<usize> = pages.iter().map(|page| page.len()).collect();
-    let starts: Vec<usize> = lens
-        .iter()
-        .scan(0, |end, &length| {
-            let start = *end;
-            *end += length;
-            Some(start)
-        })
-        .collect();
+    let (buffer, starts, lens) = handed_in(pages);
     let mut lines = vec![0; LISTING_ROOM];
     let length = list_into(&buffer, &starts, &lens, &mut lines)?;
     lines.truncate(length);
     Ok(lines)
+}
+
+/// Pages one behind the other, with their starts and lengths.
+fn handed_in(pages: &[&[u8]]) -> (Vec<u8>, Vec<usize>, Vec<usize>) {
+    let lens: Vec<usize> = pages.iter().map(|page| page.len()).collect();
+    let starts = lens.iter().scan(0, |end, &length| {
+        let start = *end;
+        *end += length;
+        Some(start)
+    });
+    (pages.concat(), starts.collect(), lens)
 }
 
 /// The same without allocating: the page `i` is the `lens[i]` bytes of the buffer from `starts[i]` on, and the listing is laid at the beginning of
@@ -108,24 +169,64 @@ pub fn list_into(
     lens: &[usize],
     out: &mut [u8],
 ) -> Result<usize, Refusal> {
-    let mut told = [0; 3];
-    // SAFETY: each pair of arguments is one slice. The library writes to `out` and `told` alone, within their lengths, and keeps no pointer.
-    let number = unsafe {
-        border::tollgilt_list(
-            buffer.as_ptr(),
-            buffer.len(),
-            starts.as_ptr(),
-            starts.len(),
-            lens.as_ptr(),
-            lens.len(),
-            out.as_mut_ptr(),
-            out.len(),
-            &mut told,
-        )
-    };
-    let [length, page, place] = told;
-    match number {
-        0 => Ok(length as usize),
-        _ => Err(Refusal::told(number, page, place)),
+    let [length, ..] = call(border::tollgilt_list, buffer, starts, lens, out)?;
+    Ok(length as usize)
+}
+
+/// The fresh pages of the plan that some pages are: one spelling for each plan, as few pages as can hold it.
+///
+/// Two sets of pages give the same fresh pages exactly when they are the same plan; and fresh pages give themselves.
+///
+/// ```
+/// # let page = b"<MP v='027' U='00112233445566778899AABBCCDDEEFF'><P f='Kern' g='Ida' b='19510704'/><A n='Praxis Holm' t='2023-03-01T09:30:00'/></MP>";
+/// let fresh = tollgilt::fresh(&[page])?;
+/// assert_eq!(fresh, [br#"<MP v="027" U="00112233445566778899AABBCCDDEEFF" l="de-DE" a="1" z="1"><P g="Ida" f="Kern" b="19510704"/><A n="Praxis Holm" t="2023-03-01T09:30:00"/></MP>"#]);
+/// assert_eq!(tollgilt::fresh(&[&fresh[0]])?, fresh);
+/// # Ok::<(), tollgilt::Refusal>(())
+/// ```
+///
+/// # Errors
+///
+/// A [`Refusal`] where the pages are no plan, or where the plan does not fit on nine fresh pages.
+pub fn fresh(pages: &[&[u8]]) -> Result<Vec<Vec<u8>>, Refusal> {
+    let (buffer, starts, lens) = handed_in(pages);
+    let mut out = vec![0; PAGE_ROOM];
+    let lengths = fresh_into(&buffer, &starts, &lens, &mut out)?;
+    let mut rest = out.as_slice();
+    let mut fresh = Vec::new();
+    for length in lengths.into_iter().take_while(|&length| length > 0) {
+        let (page, behind) = rest.split_at(length);
+        fresh.push(page.to_vec());
+        rest = behind;
     }
+    Ok(fresh)
+}
+
+/// The same without allocating: pages are handed in as for [`list_into`], and the fresh pages laid into `out`, one behind the other. Gives their lengths,
+/// 0 behind the last of them. The room behind them is untouched, and all of `out` where the call is refused.
+///
+/// ```
+/// use tollgilt::{fresh_into, Refusal, PAGE_ROOM};
+///
+/// # let page = b"<MP v='027' U='00112233445566778899AABBCCDDEEFF'><P f='Kern' g='Ida' b='19510704'/><A n='Praxis Holm' t='2023-03-01T09:30:00'/></MP>";
+/// let mut out = [0; PAGE_ROOM];
+/// let lengths = fresh_into(page, &[0], &[page.len()], &mut out)?;
+/// assert_eq!(lengths, [154, 0, 0, 0, 0, 0, 0, 0, 0]);
+/// assert!(out[..154].ends_with(b"</MP>"));
+/// assert_eq!(fresh_into(page, &[0], &[page.len()], &mut out[1..]), Err(Refusal::NoRoom));
+/// # Ok::<(), Refusal>(())
+/// ```
+///
+/// # Errors
+///
+/// A [`Refusal`] where the pages are no plan, or where the plan does not fit on nine fresh pages; [`Refusal::NoRoom`] also for what [`list_into`] gives it,
+/// and where `out` has less than [`PAGE_ROOM`] bytes.
+pub fn fresh_into(
+    buffer: &[u8],
+    starts: &[usize],
+    lens: &[usize],
+    out: &mut [u8],
+) -> Result<[usize; PAGES], Refusal> {
+    let [_, _, _, lengths @ ..] = call(border::tollgilt_fresh, buffer, starts, lens, out)?;
+    Ok(lengths.map(|length| length as usize))
 }

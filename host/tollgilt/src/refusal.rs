@@ -7,7 +7,7 @@ use std::fmt;
 /// `page` counts from 1 in the order in which the pages were handed in. `place` is the offset of a byte in its page, the first byte being 0.
 ///
 /// Where several fit, the answer is the first of: 1; then for each page in its order the lowest of 2 to 8, and of that the lowest place; then 9, 10,
-/// 11, 12.
+/// 11, 12, 14.
 ///
 /// ```
 /// use tollgilt::Refusal;
@@ -19,8 +19,8 @@ use std::fmt;
 /// ```
 #[derive(Clone, Copy, Debug, PartialEq, Eq, Hash)]
 pub enum Refusal {
-    /// 1: the call hands in no page or more than nine; for [`list_into`](crate::list_into) also a page outside the buffer, starts and lengths that
-    /// are not equally many, or too little room.
+    /// 1: the call hands in no page or more than nine; for [`list_into`](crate::list_into) and [`fresh_into`](crate::fresh_into) also a page outside the
+    /// buffer, starts and lengths that are not equally many, or too little room.
     NoRoom,
     /// 2: the page is empty or has more than 1,400 bytes.
     PageSize { page: u32 },
@@ -45,6 +45,9 @@ pub enum Refusal {
     NumberMissing { number: u32 },
     /// 12: the plan has more than 256 rows.
     TooManyRows,
+    /// 14, for fresh pages alone: the plan does not fit on nine of them; `row` is the first row, counted from 1, up to which the rows do not fit, or 0
+    /// where the head alone is too long.
+    NoCut { row: u32 },
 }
 
 impl Refusal {
@@ -63,11 +66,12 @@ impl Refusal {
             10 => Self::NumberTwice { page },
             11 => Self::NumberMissing { number: page },
             12 => Self::TooManyRows,
-            _ => unreachable!("the library answers 0 to 12, not {number}"),
+            14 => Self::NoCut { row: place },
+            _ => unreachable!("the library answers 0 to 12 or 14, not {number}"),
         }
     }
 
-    /// The number of the refusal, 1 to 12.
+    /// The number of the refusal, 1 to 12 or 14.
     pub fn number(&self) -> u32 {
         match self {
             Self::NoRoom => 1,
@@ -82,13 +86,14 @@ impl Refusal {
             Self::NumberTwice { .. } => 10,
             Self::NumberMissing { .. } => 11,
             Self::TooManyRows => 12,
+            Self::NoCut { .. } => 14,
         }
     }
 
     /// The page that comes with it, counted from 1 in the order handed in; for a missing page its page number; 0 for a refusal of the whole set.
     pub fn page(&self) -> u32 {
         match *self {
-            Self::NoRoom | Self::TooManyRows => 0,
+            Self::NoRoom | Self::TooManyRows | Self::NoCut { .. } => 0,
             Self::PageSize { page }
             | Self::ByteRefused { page, .. }
             | Self::Malformed { page, .. }
@@ -102,7 +107,7 @@ impl Refusal {
         }
     }
 
-    /// The place that comes with it, an offset from 0 in its page; 0 for a refusal that has none.
+    /// The place that comes with it, an offset from 0 in its page; for [`NoCut`](Self::NoCut) the row; 0 for a refusal that has none.
     pub fn place(&self) -> u32 {
         match *self {
             Self::ByteRefused { place, .. }
@@ -110,7 +115,8 @@ impl Refusal {
             | Self::OutOfPlace { place, .. }
             | Self::OtherEdition { place, .. }
             | Self::BrokenValue { place, .. }
-            | Self::Incomplete { place, .. } => place,
+            | Self::Incomplete { place, .. }
+            | Self::NoCut { row: place } => place,
             _ => 0,
         }
     }
@@ -119,7 +125,7 @@ impl Refusal {
 impl fmt::Display for Refusal {
     fn fmt(&self, words: &mut fmt::Formatter<'_>) -> fmt::Result {
         match self {
-            Self::NoRoom => write!(words, "the call does not hand in one to nine pages that lie in its buffer, and room for a listing"),
+            Self::NoRoom => write!(words, "the call does not hand in one to nine pages that lie in its buffer, and room enough"),
             Self::PageSize { page } => write!(words, "page {page} is empty or longer than 1,400 bytes"),
             Self::ByteRefused { page, place } => write!(words, "page {page} has a byte that is not allowed, at byte {place}"),
             Self::Malformed { page, place } => write!(words, "page {page} is malformed from byte {place} on"),
@@ -131,6 +137,8 @@ impl fmt::Display for Refusal {
             Self::NumberTwice { page } => write!(words, "page {page} has a page number that an earlier page has"),
             Self::NumberMissing { number } => write!(words, "page number {number} is missing"),
             Self::TooManyRows => write!(words, "the plan has more than 256 rows"),
+            Self::NoCut { row: 0 } => write!(words, "the head of the plan is too long for a fresh page"),
+            Self::NoCut { row } => write!(words, "the rows up to row {row} do not fit on nine fresh pages"),
         }
     }
 }

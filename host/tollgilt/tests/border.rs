@@ -1,31 +1,63 @@
 //! The border with any numbers: pages that lie anywhere, starts and lengths that do not fit, rooms of any size, against the second program.
 
-use std::ops::Range;
+mod seeds;
+
+use std::fmt::Debug;
 
 use inputs::{case, Random};
-use second::call::listing_call;
-use tollgilt::{list_into, LISTING_ROOM};
-
-/// The seeds of a test: so many, or as many as the environment variable TOLLGILT_SEEDS says.
-fn seeds(usual: u64) -> Range<u64> {
-    let said = std::env::var("TOLLGILT_SEEDS").ok();
-    0..said.map_or(usual, |count| count.parse().expect("a number of seeds"))
-}
+use second::call::{fresh_call, listing_call};
+use second::Refusal;
+use seeds::seeds;
+use tollgilt::{fresh_into, list_into, LISTING_ROOM, PAGES, PAGE_ROOM};
 
 /// What stands in the room before a call, and must stand there afterwards wherever nothing was laid.
 const POISONS: [u8; 2] = [0x00, 0xA5];
 
-/// Compares a call with the second program: the listing or the refusal, and every byte of the room.
-fn compare(name: &str, buffer: &[u8], starts: &[usize], lens: &[usize], room: usize) {
-    let expected = listing_call(buffer, starts, lens, room);
+/// Compares a call with the second program, for a listing and for fresh pages: the numbers that are told, or the refusal, and every byte of the room. `room`
+/// says how much is lent of what the call asks for.
+fn compare(
+    name: &str,
+    buffer: &[u8],
+    starts: &[usize],
+    lens: &[usize],
+    room: impl Fn(usize) -> usize,
+) {
+    let lent = room(LISTING_ROOM);
+    let lines = listing_call(buffer, starts, lens, lent);
+    let lines = lines.map(|lines| (lines.len(), lines));
+    same(&format!("{name}, listed"), lent, &lines, |out| {
+        list_into(buffer, starts, lens, out)
+    });
+    let lent = room(PAGE_ROOM);
+    let pages = fresh_call(buffer, starts, lens, lent);
+    let pages = pages.map(|(pages, lengths)| (nine(&lengths), pages));
+    same(&format!("{name}, afresh"), lent, &pages, |out| {
+        fresh_into(buffer, starts, lens, out)
+    });
+}
+
+/// Nine lengths, 0 behind the last page.
+fn nine(lengths: &[usize]) -> [usize; PAGES] {
+    let mut nine = [0; PAGES];
+    nine[..lengths.len()].copy_from_slice(lengths);
+    nine
+}
+
+/// A call into a room tells these numbers and lays these bytes, or is refused so, and leaves the rest of the room as it was.
+fn same<Told: PartialEq + Debug>(
+    name: &str,
+    room: usize,
+    expected: &Result<(Told, Vec<u8>), Refusal>,
+    call: impl Fn(&mut [u8]) -> Result<Told, tollgilt::Refusal>,
+) {
     for poison in POISONS {
         let mut out = vec![poison; room];
-        let given = list_into(buffer, starts, lens, &mut out);
+        let given = call(&mut out);
         let mut after = vec![poison; room];
-        match &expected {
-            Ok(lines) => {
-                assert_eq!(given, Ok(lines.len()), "{name}");
-                after[..lines.len()].copy_from_slice(lines);
+        match expected {
+            Ok((told, bytes)) => {
+                assert_eq!(given.as_ref(), Ok(told), "{name}");
+                after[..bytes.len()].copy_from_slice(bytes);
             }
             Err(refusal) => {
                 let given = given.expect_err(name);
@@ -36,6 +68,11 @@ fn compare(name: &str, buffer: &[u8], starts: &[usize], lens: &[usize], room: us
         }
         assert!(out == after, "{name}: the room");
     }
+}
+
+/// As much room as is asked for.
+fn enough(asked: usize) -> usize {
+    asked
 }
 
 /// The pages of a seed with some bytes before and behind each of them, and where they lie.
@@ -60,12 +97,14 @@ fn edge(size: usize, random: &mut Random) -> usize {
 }
 
 #[test]
-fn pages_that_lie_anywhere_in_the_buffer_are_listed_or_refused_alike() {
+fn pages_that_lie_anywhere_in_the_buffer_are_listed_written_or_refused_alike() {
     for seed in seeds(2_000) {
         let mut random = Random::new(seed ^ 0xB0DE);
         let (buffer, starts, lens) = scattered(&case(seed).pages, &mut random);
-        let room = LISTING_ROOM + random.below(3) * random.below(100);
-        compare(&format!("seed {seed}"), &buffer, &starts, &lens, room);
+        let more = random.below(3) * random.below(100);
+        compare(&format!("seed {seed}"), &buffer, &starts, &lens, |asked| {
+            asked + more
+        });
     }
 }
 
@@ -87,7 +126,8 @@ fn numbers_that_do_not_fit_are_refused_like_in_the_second_program() {
                 _ => {}
             }
         }
-        let room = *random.pick(&[LISTING_ROOM, LISTING_ROOM, LISTING_ROOM - 1, 1, 0]);
+        let rooms = [enough, enough, |asked| asked - 1, |_| 1, |_| 0];
+        let room = random.pick::<fn(usize) -> usize>(&rooms);
         compare(&format!("seed {seed}"), &buffer, &starts, &lens, room);
     }
 }
@@ -95,9 +135,12 @@ fn numbers_that_do_not_fit_are_refused_like_in_the_second_program() {
 #[test]
 fn a_room_one_byte_too_small_is_refused_with_1_and_untouched() {
     let page = case(0).pages.concat();
-    for room in [0, 1, 100, LISTING_ROOM - 1] {
-        compare("a small room", &page, &[0], &[page.len()], room);
+    for less in [1, 100, PAGE_ROOM - 1, PAGE_ROOM] {
+        compare("a small room", &page, &[0], &[page.len()], |asked| {
+            asked - less
+        });
     }
+    compare("no room", &page, &[0], &[page.len()], |_| 0);
 }
 
 #[test]
@@ -109,43 +152,25 @@ fn empty_slices_are_answered_wherever_they_point() {
         &nothing,
         &no_numbers,
         &no_numbers,
-        LISTING_ROOM,
+        enough,
     );
-    compare(
-        "an empty page in no buffer",
-        &nothing,
-        &[0],
-        &[0],
-        LISTING_ROOM,
-    );
+    compare("an empty page in no buffer", &nothing, &[0], &[0], enough);
     compare(
         "an empty page behind no buffer",
         &nothing,
         &[1],
         &[0],
-        LISTING_ROOM,
+        enough,
     );
-    compare(
-        "a start and no length",
-        b"<MP/>",
-        &[0],
-        &no_numbers,
-        LISTING_ROOM,
-    );
-    compare(
-        "a length and no start",
-        b"<MP/>",
-        &no_numbers,
-        &[5],
-        LISTING_ROOM,
-    );
-    compare("no room", b"<MP/>", &[0], &[5], 0);
+    compare("a start and no length", b"<MP/>", &[0], &no_numbers, enough);
+    compare("a length and no start", b"<MP/>", &no_numbers, &[5], enough);
+    compare("no room", b"<MP/>", &[0], &[5], |_| 0);
 }
 
 #[test]
 fn an_empty_page_may_lie_at_the_end_of_the_buffer_but_not_behind_it() {
     for start in [4, 5, 6, usize::MAX] {
-        compare("an empty page", b"<MP/>", &[start], &[0], LISTING_ROOM);
+        compare("an empty page", b"<MP/>", &[start], &[0], enough);
     }
 }
 
@@ -162,13 +187,7 @@ fn starts_and_lengths_that_add_up_beyond_the_largest_number_are_refused() {
         (1 << 63, 1 << 63),
         ((1 << 63) + 1, 1 << 63),
     ] {
-        compare(
-            "a sum that wraps",
-            b"<MP/>",
-            &[start],
-            &[length],
-            LISTING_ROOM,
-        );
+        compare("a sum that wraps", b"<MP/>", &[start], &[length], enough);
     }
 }
 
@@ -181,14 +200,29 @@ fn any_number_of_pages_is_answered() {
             page,
             &vec![0; count],
             &vec![5; count],
-            LISTING_ROOM,
+            enough,
         );
         compare(
             "one start more",
             page,
             &vec![0; count + 1],
             &vec![5; count],
-            LISTING_ROOM,
+            enough,
         );
     }
+}
+
+#[test]
+fn a_thread_with_256_kilobytes_of_stack_can_make_either_call() {
+    let thread = std::thread::Builder::new().stack_size(256 << 10);
+    let calls = || {
+        for seed in 0..20 {
+            let (buffer, starts, lens) = scattered(&case(seed).pages, &mut Random::new(seed));
+            let mut out = vec![0; LISTING_ROOM];
+            let listed = list_into(&buffer, &starts, &lens, &mut out).is_ok();
+            let written = fresh_into(&buffer, &starts, &lens, &mut out).is_ok();
+            assert!(listed || !written, "seed {seed}");
+        }
+    };
+    thread.spawn(calls).unwrap().join().unwrap();
 }

@@ -1,24 +1,83 @@
-//! `compare FIRST COUNT`: compares the proved layers with the second program on the inputs of COUNT seeds from FIRST on.
+//! `compare FIRST COUNT [PART]`: compares proved code with the second program on the inputs of COUNT seeds from FIRST on. PART is one of
+//!   layers     the layers below writing, and reading (if no part is named)
+//!   fresh      the plans of generated sets of pages, written fresh
+//!   plans      plans in numbers that were made up, written
+//!   collector  sequences of a collector
+//!   cells      cells of plans in numbers
 
-use compare::rounds::{differences, tables};
+use std::collections::BTreeMap;
+
+use compare::{cells, collecting, rounds, writing};
+
+/// What is counted beside the seeds: how often each thing happened.
+type Tally = BTreeMap<String, u64>;
+
+fn layers(seed: u64, _: &mut Tally) -> Vec<String> {
+    rounds::differences(seed)
+}
+
+fn fresh(seed: u64, tally: &mut Tally) -> Vec<String> {
+    let case = inputs::case(seed);
+    let Some(found) = writing::fresh(&format!("seed {seed}"), &case.pages) else {
+        return Vec::new();
+    };
+    *tally.entry("plans".to_string()).or_default() += 1;
+    found
+}
+
+fn plans(seed: u64, tally: &mut Tally) -> Vec<String> {
+    let (told, found) = writing::made_up(seed);
+    let mut count = |what: String, more: usize| *tally.entry(what).or_default() += more as u64;
+    count(format!("answer {}", told.number), 1);
+    count(format!("{}, answer {}", told.what, told.number), 1);
+    count(format!("of {} pages", told.pages), 1);
+    count("full pages".to_string(), told.full);
+    found
+}
+
+fn collector(seed: u64, tally: &mut Tally) -> Vec<String> {
+    let mut counts = collecting::Tally::new();
+    let found = collecting::differences(seed, &mut counts);
+    for ((what, number), count) in counts {
+        *tally.entry(format!("{what}, answer {number}")).or_default() += count;
+    }
+    found
+}
+
+fn cells(seed: u64, tally: &mut Tally) -> Vec<String> {
+    let (refused, found) = cells::differences(seed);
+    *tally.entry("cells".to_string()).or_default() += cells::CELLS;
+    *tally.entry("refused".to_string()).or_default() += refused;
+    found
+}
 
 fn main() {
-    let numbers: Vec<u64> = std::env::args()
-        .skip(1)
-        .filter_map(|word| word.parse().ok())
-        .collect();
-    let [first, count] = numbers[..] else {
-        eprintln!("usage: compare FIRST COUNT");
+    let words: Vec<String> = std::env::args().skip(1).collect();
+    let number = |at: usize| words.get(at).and_then(|word| word.parse::<u64>().ok());
+    let part: Option<fn(u64, &mut Tally) -> Vec<String>> = match words.get(2).map(String::as_str) {
+        None | Some("layers") => Some(layers),
+        Some("fresh") => Some(fresh),
+        Some("plans") => Some(plans),
+        Some("collector") => Some(collector),
+        Some("cells") => Some(cells),
+        Some(_) => None,
+    };
+    let (Some(first), Some(count), Some(part)) = (number(0), number(1), part) else {
+        eprintln!("usage: compare FIRST COUNT [layers|fresh|plans|collector|cells]");
         std::process::exit(2);
     };
     println!("seeds {first} to {}", first + count - 1);
-    let mut failed = u64::from(!tables().is_empty());
+    let mut tally = Tally::new();
+    let mut failed = u64::from(!rounds::tables().is_empty());
     for seed in first..first + count {
-        let found = differences(seed);
+        let found = part(seed, &mut tally);
         for line in &found {
             println!("{line}");
         }
         failed += u64::from(!found.is_empty());
+    }
+    for (what, count) in tally {
+        println!("{what}: {count}");
     }
     println!("{} passed, {failed} failed", count + 1 - failed);
     std::process::exit(i32::from(failed > 0));

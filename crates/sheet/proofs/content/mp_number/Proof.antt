@@ -13,7 +13,8 @@ use Rattle.paper.specs.Plan.{Slots}
 use Rattle.markup.specs.Walk.{tagsAt}
 use Rattle.fields.specs.Places.{kindAt, fieldAt}
 use Rattle.sheet.specs.Content.{partFrom}
-use Rattle.sheet.proofs.ContentLaws.{noRaw, lie-at}
+use Rattle.sheet.specs.Found.{noRaw}
+use Rattle.sheet.proofs.ContentLaws.{lie-at}
 use Rattle.sheet.proofs.HeadLaws.{mp-plain, mp-told, mp-kept, short-kept}
 use borrow.Author.Needs.{needs}
 use Rattle.sheet.proofs.content.mp_number.Statement.{statement}

@@ -12,36 +12,25 @@ use Rattle.paper.specs.Reading as Paper
 use Rattle.paper.specs.Reading.{read}
 use Rattle.paper.specs.Listing.{parted}
 use Rattle.tollgilt.specs.Promise.{Promised}
-use Rattle.tollgilt.proofs.InputLaws.{split-read, none-printed, plan-printed, refusal-fits, refusal-printed}
+use Rattle.tollgilt.proofs.ListLaws.{list-call}
+use Rattle.tollgilt.proofs.InputLaws.{none-printed, plan-printed, refusal-fits, refusal-printed}
 use Rattle.tollgilt.proofs.input.list_input.Statement.{statement}
 use Rattle.tollgilt.proofs.input.list_input.Tie as tie
 
-module _ (c : tie.After-split-pages) where
-  -- there is room for ten starts and ten lengths
-  starts-ten : length (c .split-pages .last .1 .0) ≡ 10
-  starts-ten = search needs
-
-  lens-ten : length (c .split-pages .last .1 .1 .0) ≡ 10
-  lens-ten = search needs
-
-  -- which is as many as there are pages to hand in, or more
-  starts-many : c .split-pages .result ≤ length (c .split-pages .last .1 .0)
-  starts-many = omega (arith, starts-ten, c .split-pages .ensures .0, length-take 10 (parted (take (c .before .before .before .before .counted .result) (now (c .before .before .before .before .before .before .before .before .args .input)))))
-
-  lens-many : c .split-pages .result ≤ length (c .split-pages .last .1 .1 .0)
-  lens-many = omega (arith, lens-ten, starts-ten, starts-many)
-
 module _ (c : tie.After-list-pages) where
-  abbrev split : tie.After-split-pages
+  abbrev split : tie.After-split
   split = c .before .before .before .before .before .before
+
+  abbrev counting : tie.After-counted
+  counting = split .before .before
 
   -- where the call began
   abbrev start : tie.Start
-  start = split .before .before .before .before .before .before .before .before
+  start = counting .before .before .before .before
 
   -- how many bytes count
   abbrev count : ℕ
-  count = split .before .before .before .before .counted .result
+  count = counting .counted .result
 
   -- the room as `list_pages` hands it back
   abbrev room : List ℕ
@@ -49,17 +38,17 @@ module _ (c : tie.After-list-pages) where
 
   -- the room is enough
   roomy : 25200 ≤ length (now (start .args .out))
-  roomy = split .before .before .before .before .before .if1 .left
+  roomy = counting .before .if1 .left
 
   -- what counts of the input
   counted-as : take count (now (start .args .input)) ≡ take 12609 (now (start .args .input))
-  counted-as = split .before .before .before .before .counted .ensures .1
+  counted-as = counting .counted .ensures .1
 
   -- the pages of the input are listed
   listed-as : Promised (read (parted (take count (now (start .args .input))))) (now (start .args .out)) (c .list-pages .result) room
   listed-as =
       subst (λ (a : Paper.Answer). Promised a (now (start .args .out)) (c .list-pages .result) room)
-      (split-read (now (start .args .out)) (take count (now (start .args .input))) _ _ _ _ (split .split-pages .result) (split .split-pages .ensures) (omega (arith, starts-ten split)) roomy)
+      (list-call (now (start .args .out)) _ _ _ roomy ∙ split .split .ensures .2)
       (c .list-pages .ensures)
 
 returns : tie.Need-returns
@@ -71,26 +60,20 @@ counted-requires c κs = search needs
 slice-aggregate-part : tie.Need-slice-aggregate-part
 slice-aggregate-part c = sym (length-take-le _ _ (c .before .counted .ensures .0))
 
-slice-aggregate-split-pages : tie.Need-slice-aggregate-split-pages
-slice-aggregate-split-pages c = search needs
-
-slice-aggregate-split-pages-2 : tie.Need-slice-aggregate-split-pages-2
-slice-aggregate-split-pages-2 c = search needs
-
-split-pages-requires : tie.Need-split-pages-requires
-split-pages-requires c κs = search needs
+split-requires : tie.Need-split-requires
+split-requires c κs = search needs
 
 array-share-prefix-starts : tie.Need-array-share-prefix-starts
-array-share-prefix-starts c = omega (arith, starts-many (c .before .before))
+array-share-prefix-starts c = search needs
 
 slice-aggregate-list-pages : tie.Need-slice-aggregate-list-pages
-slice-aggregate-list-pages c = simp length-take (omega (arith, starts-many (c .before .before .before)))
+slice-aggregate-list-pages c = simp length-take (omega (arith, c .before .before .before .split .ensures .0))
 
 array-share-prefix-lens : tie.Need-array-share-prefix-lens
-array-share-prefix-lens c = omega (arith, lens-many (c .before .before .before))
+array-share-prefix-lens c = search needs
 
 slice-aggregate-list-pages-2 : tie.Need-slice-aggregate-list-pages-2
-slice-aggregate-list-pages-2 c = simp length-take (omega (arith, lens-many (c .before .before .before .before)))
+slice-aggregate-list-pages-2 c = simp length-take (omega (arith, c .before .before .before .before .split .ensures .1))
 
 list-pages-requires : tie.Need-list-pages-requires
 list-pages-requires c κs = search needs
@@ -142,9 +125,7 @@ list-input-spec =
     returns
     counted-requires
     slice-aggregate-part
-    slice-aggregate-split-pages
-    slice-aggregate-split-pages-2
-    split-pages-requires
+    split-requires
     array-share-prefix-starts
     slice-aggregate-list-pages
     array-share-prefix-lens

@@ -25,11 +25,11 @@ small : (c : tie.After-lay-row) → c .lay-row .result ≤ 8192
 small c = omega (arith, c .lay-row .ensures .behind, fits (c .before .before .before .before .before))
 
 -- whether it is a heading
-told : (c : tie.After-is-heading) → let s = c .before .before .before .before .before .before .before .before .before in
-    c .is-heading .result ≡ heading (showRow (s .args .text .now) (recordAt (s .args .rows .now) (s .args .i)))
+told : (c : tie.After-heads) → let s = c .before .before .before .before .before .before .before .before .before in
+    c .heads .result ≡ heading (showRow (s .args .text .now) (recordAt (s .args .rows .now) (s .args .i)))
 told c =
     let s = c .before .before .before .before .before .before .before .before .before in
-    c .is-heading .ensures ∙ ap (λ (k : Kind). is (paperKind k) S) (c .before .kind-at .ensures) ∙ heading-told (s .args .text .now) (recordAt (s .args .rows .now) (s .args .i))
+    c .heads .ensures ∙ ap (λ (k : Kind). is (paperKind k) S) (c .before .kind-at .ensures) ∙ heading-told (s .args .text .now) (recordAt (s .args .rows .now) (s .args .i))
 
 lay-row-requires : tie.Need-lay-row-requires
 lay-row-requires c κs = let s = c .before .before .before .before in (s .pre .0, s .pre .1, omega (arith, fits s, s .pre .2))
@@ -37,8 +37,8 @@ lay-row-requires c κs = let s = c .before .before .before .before in (s .pre .0
 kind-at-requires : tie.Need-kind-at-requires
 kind-at-requires c κs = search needs
 
-is-heading-requires : tie.Need-is-heading-requires
-is-heading-requires c κs = search needs
+heads-requires : tie.Need-heads-requires
+heads-requires c κs = search needs
 
 cast-result : tie.Need-cast-result
 cast-result c = omega (arith, small (c .before .before .before .before .before))
@@ -76,7 +76,7 @@ row-measure-spec =
     (tie.spec
     lay-row-requires
     kind-at-requires
-    is-heading-requires
+    heads-requires
     cast-result
     add-result
     mul-result

@@ -1,5 +1,6 @@
 -- `writer::tags::lay_attribute` meets its contract: blank, name, `="`, value and `"` stand one behind the other.
 -- Assumes nothing.
+
 use mathlib.Core.Path.{refl}
 use mathlib.Core.List.{List, [], _∷_, _++_}
 use Prim.Native.Nat.{ℕ, _+_}
@@ -16,6 +17,11 @@ use Rattle.writer.proofs.Spelled.{byte-fits, byte-on}
 use borrow.Author.Needs.{needs}
 use Rattle.writer.proofs.tags.lay_attribute.Statement.{statement}
 use Rattle.writer.proofs.tags.lay_attribute.Tie as tie
+use Rattle.writer.proofs.tags.lay_attribute.Reads as reads
+use Rattle.writer.proofs.tags.lay_attribute.Lts as lts
+use Rattle.fields.proofs.names.lay_name.Reads as lay-name-reads
+use Rattle.markup.proofs.values.lay.Reads as lay-reads
+use Rattle.writer.proofs.tags.lay_value.Reads as lay-value-reads
 
 -- the value as it is spelled, and the attribute
 abbrev raw : tie.Start → List ℕ
@@ -38,11 +44,11 @@ name-in c = let S = c .before .before .before .before in going-on (blank-in S) (
 sign-in : (c : tie.After-lay) → let S = c .before .before .before .before .before .before .before .before .before in Going (S .args .out .now) (c .lay .last .0) (S .args .at) (c .lay .result) (whole S) (raw S ++ 34 ∷ [])
 sign-in c = let S = c .before .before .before .before .before .before .before .before .before in going-on (name-in (c .before .before .before .before .before)) (bytes "=\"") (raw S ++ 34 ∷ []) refl (wrote (c .lay .ensures))
 
-value-in : (c : tie.After-spell) → let S = c .before .before .before .before .before .before .before .before .before .before .before .before .before in Going (S .args .out .now) (c .spell .last .1 .1 .1 .0) (S .args .at) (c .spell .result) (whole S) (34 ∷ [])
-value-in c = let S = c .before .before .before .before .before .before .before .before .before .before .before .before .before in going-on (sign-in (c .before .before .before .before)) (raw S) (34 ∷ []) refl (wrote (c .spell .ensures))
+value-in : (c : tie.After-lay-value) → let S = c .before .before .before .before .before .before .before .before .before .before .before .before .before in Going (S .args .out .now) (c .lay-value .last .0) (S .args .at) (c .lay-value .result) (whole S) (34 ∷ [])
+value-in c = let S = c .before .before .before .before .before .before .before .before .before .before .before .before .before in going-on (sign-in (c .before .before .before .before)) (raw S) (34 ∷ []) refl (c .lay-value .ensures)
 
 -- all is written
-all-in : (c : tie.After-spell) → let S = c .before .before .before .before .before .before .before .before .before .before .before .before .before in Wrote (S .args .out .now) (set (c .spell .last .1 .1 .1 .0) (c .spell .result) 34) (S .args .at) (c .spell .result + 1) (whole S)
+all-in : (c : tie.After-lay-value) → let S = c .before .before .before .before .before .before .before .before .before .before .before .before .before in Wrote (S .args .out .now) (set (c .lay-value .last .0) (c .lay-value .result) 34) (S .args .at) (c .lay-value .result + 1) (whole S)
 all-in c = going-done (fit (c .before .before .before .before .before .before .before .before .before .before .before .before .before)) (byte-on (value-in c)) refl
 
 slice-write-out : tie.Need-slice-write-out
@@ -60,9 +66,6 @@ slice-aggregate-lay c = search needs
 lay-requires : tie.Need-lay-requires
 lay-requires c κs = let N = c .before .before .before .before in going-fits (name-in N) (bytes "=\"") (raw (N .before .before .before .before) ++ 34 ∷ []) refl
 
-spell-requires : tie.Need-spell-requires
-spell-requires c κs = let L = c .before .before .before in let S = L .before .before .before .before .before .before .before .before .before in (S .pre .0, S .pre .1, going-fits (sign-in L) (raw S) (34 ∷ []) refl)
-
 slice-write-out-2 : tie.Need-slice-write-out-2
 slice-write-out-2 c = byte-fits (value-in (c .before .before))
 
@@ -75,6 +78,10 @@ same-length c = let P = c .before .before in room-kept (fit (P .before .before .
 returns : tie.Need-returns
 returns c = all-in (c .before .before)
 
+-- src/tags.rt:85:9
+lay-value-requires : tie.Need-lay-value-requires
+lay-value-requires c κs = let L = c .before .before .before in let S = L .before .before .before .before .before .before .before .before .before in (S .pre .0, S .pre .1, going-fits (sign-in L) (raw S) (34 ∷ []) refl)
+
 pub lay-attribute-spec : {M : Type 1} → statement M
 lay-attribute-spec =
     tie.close
@@ -84,7 +91,7 @@ lay-attribute-spec =
     lay-name-requires
     slice-aggregate-lay
     lay-requires
-    spell-requires
+    lay-value-requires
     slice-write-out-2
     add-result
     same-length

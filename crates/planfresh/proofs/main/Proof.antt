@@ -1,0 +1,61 @@
+-- `planfresh::main` is safe: what is printed is never longer than the room.
+-- Assumes nothing.
+use mathlib.Core.Path.{_≡_}
+use Prim.Native.Nat.{ℕ, _≤_}
+use native.Mathlib.Omega.{arith}
+use lib.ListN.{length, length-take, length-replicate}
+use Rattle.tollgilt.proofs.FreshInput.{fresh-printed-fits}
+use borrow.Author.Needs.{needs}
+use Rattle.planfresh.proofs.main.Statement.{statement}
+use Rattle.planfresh.proofs.main.Tie as tie
+
+-- what is printed lies in the room
+within : (c : tie.After-fresh-input) → c .fresh-input .result ≤ length (c .fresh-input .last .1 .0)
+within c =
+    let long : length (c .fresh-input .last .1 .0) ≡ 12608 = search needs in
+    omega (arith, fresh-printed-fits _ _ _ (c .fresh-input .ensures .0), length-replicate {A = ℕ} 12608 0)
+
+slice-aggregate-read-full : tie.Need-slice-aggregate-read-full
+slice-aggregate-read-full c = search needs
+
+read-full-requires : tie.Need-read-full-requires
+read-full-requires c κs = search needs
+
+array-share-prefix-input : tie.Need-array-share-prefix-input
+array-share-prefix-input c = search needs
+
+slice-aggregate-fresh-input : tie.Need-slice-aggregate-fresh-input
+slice-aggregate-fresh-input c = search needs
+
+slice-aggregate-fresh-input-2 : tie.Need-slice-aggregate-fresh-input-2
+slice-aggregate-fresh-input-2 c = search needs
+
+fresh-input-requires : tie.Need-fresh-input-requires
+fresh-input-requires c κs = search needs
+
+array-share-prefix-out : tie.Need-array-share-prefix-out
+array-share-prefix-out c = within (c .before)
+
+slice-aggregate-write-all : tie.Need-slice-aggregate-write-all
+slice-aggregate-write-all c = simp length-take (omega (arith, within (c .before .before)))
+
+write-all-requires : tie.Need-write-all-requires
+write-all-requires c κs = search needs
+
+returns : tie.Need-returns
+returns c = search needs
+
+pub main-spec : {M : Type 1} → statement M
+main-spec =
+    tie.close
+    (tie.spec
+    slice-aggregate-read-full
+    read-full-requires
+    array-share-prefix-input
+    slice-aggregate-fresh-input
+    slice-aggregate-fresh-input-2
+    fresh-input-requires
+    array-share-prefix-out
+    slice-aggregate-write-all
+    write-all-requires
+    returns)

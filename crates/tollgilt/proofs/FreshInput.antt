@@ -1,0 +1,105 @@
+-- FreshInput: what planfresh prints for its input, from what writing its pages afresh gives.
+-- Assumes nothing.
+use mathlib.Core.Path.{_≡_, refl, ap, sym, _∙_}
+use mathlib.Core.Bool.{Bool, true, false}
+use mathlib.Core.List.{List, []}
+use Prim.Native.Nat.{ℕ, _+_, _≤_, _<_}
+use native.Mathlib.Omega.{arith}
+use lib.Dec.{leb}
+use lib.ListN.{length, take}
+use borrow.Author.Tests.{le-leb, lt-leb, leb-true}
+use Rattle.paper.specs.Lists.{if}
+use Rattle.paper.specs.Plan as Said
+use Rattle.paper.specs.Reading as Paper
+use Rattle.paper.specs.Reading.{read}
+use Rattle.paper.specs.Writing.{Written, tooMany, unsound, tooLong, written, fresh}
+use Rattle.paper.specs.Listing.{parted, refusalLines}
+use Rattle.paper.specs.Calls.{readAt}
+use Rattle.paper.proofs.Rooms.{refusal-short}
+use Rattle.paper.proofs.Writer.{is-cut, room}
+use Rattle.markup.specs.Laid.{laid}
+use Rattle.tollgilt.specs.Fresh.{Answer, refusal, pages, writes, afresh, answered, given, bytesTold, pagesIn}
+use Rattle.tollgilt.specs.Printed.{separated, freshLines, planfresh, separatedRoom, freshPrinted}
+use Rattle.tollgilt.specs.declared.fresh.Fresh.{Fresh}
+use Rattle.tollgilt.proofs.FreshLaws.{Gives, roomy-call, Freshly, freshly, bytes-told, pages-in}
+use Rattle.tollgilt.proofs.JoinLaws.{separated-short}
+
+-- a length and a room in which just so much is printed
+abbrev pub FreshPrints : List ℕ → List ℕ → List ℕ → ℕ → Type 0
+FreshPrints out input out′ r = (r ≡ length (freshPrinted out input)) × (out′ ≡ laid out 0 (freshPrinted out input))
+
+-- ---- what is printed fits
+
+-- of any plan
+lines-short : (p : Said.Plan) (w : Written) → fresh p ≡ w → length (freshLines (writes w)) ≤ 12608
+lines-short p tooMany e = omega (arith, refusal-short 1 0 0)
+lines-short p (unsound i) e = omega (arith, refusal-short 13 0 i)
+lines-short p (tooLong i) e = omega (arith, refusal-short 14 0 i)
+lines-short p (written f) e = let (n, _, b) = room p f e in separated-short f n b
+
+-- of any answer
+answer-short : (a : Paper.Answer) → length (freshLines (afresh a)) ≤ 12608
+answer-short (Paper.refusal n k i) = omega (arith, refusal-short n k i)
+answer-short (Paper.plan p) = lines-short p (fresh p) refl
+
+-- what is printed is never longer than the room
+pub fresh-printed-fits : (out input : List ℕ) (r : ℕ) → r ≡ length (freshPrinted out input) → r ≤ length out
+unfolding freshPrinted planfresh
+fresh-printed-fits out input r = at (leb separatedRoom (length out)) refl
+  where
+    at : (b : Bool) → leb separatedRoom (length out) ≡ b → r ≡ length (if b (freshLines (afresh (read (parted (take 12609 input))))) []) → r ≤ length out
+    at true e q = omega (arith, leb-true separatedRoom (length out) e, answer-short (read (parted (take 12609 input))))
+    at false e q = omega arith
+
+-- ---- what is printed
+
+-- into too little room nothing
+pub none-freshly : (out input : List ℕ) → length out < 12608 → FreshPrints out input out 0
+unfolding freshPrinted
+none-freshly out input h = rw (lt-leb separatedRoom (length out) h) (refl, refl)
+
+-- the lines of a refusal
+refusal-lines : (a : Answer) (r : Fresh) → r ≡ given a → (r .number ≡ 0 → ⊥) → refusalLines (r .number) (r .page) (r .place) ≡ freshLines a
+refusal-lines (refusal n k i) r e h = ap (λ (t : Fresh). refusalLines (t .number) (t .page) (t .place)) e
+refusal-lines (pages f) r e h = absurd (h (ap (λ (t : Fresh). t .number) e))
+
+-- the pages of the input, written afresh into a room
+module _ (out input room₀ b ss ns : List ℕ) (r : Fresh) (room₁ : List ℕ) (roomy : 12608 ≤ length out) (enough : length room₀ ≡ 12600) (counted : b ≡ take 12609 input)
+    (handed-in : readAt true b ss ns ≡ read (parted b)) (F : Gives room₀ b ss ns r room₁) where
+  printed-is : freshPrinted out input ≡ freshLines (answered room₀ b ss ns)
+  unfolding freshPrinted planfresh
+  printed-is =
+      ap (λ (x : Bool). if x (planfresh input) []) (le-leb separatedRoom (length out) roomy)
+      ∙ (ap (λ (s : List ℕ). freshLines (afresh (read (parted s)))) (sym counted)
+      ∙ ap (λ (a : Paper.Answer). freshLines (afresh a)) (sym (roomy-call room₀ b ss ns (omega arith) ∙ handed-in)))
+
+  module _ (z : r .number ≡ 0) where
+    there : Freshly room₀ b ss ns r room₁
+    there = freshly room₀ b ss ns r room₁ F z
+
+    lines : freshPrinted out input ≡ separated (pagesIn r room₁)
+    lines = printed-is ∙ (ap (λ (a : Paper.Answer). freshLines (afresh a)) (there .is-plan) ∙ (ap (λ (w : Written). freshLines (writes w)) (there .is-fresh) ∙ ap separated (sym (pages-in there))))
+
+    -- the pages can be laid anew
+    pub joinable : length room₁ ≡ 12600 → (1 ≤ r .pages) × (r .pages ≤ 9) × (bytesTold r ≤ length room₁) × (bytesTold r + r .pages ≤ length out + 1)
+    joinable long =
+        let count : r .pages ≡ length (there .sheets) = ap (λ (t : Fresh). t .pages) (there .result-is) in
+        let (nine, _, most) = room (there .plan) (there .sheets) (there .is-fresh) in
+        let some = is-cut (there .plan) (there .sheets) (there .is-fresh) .0 .one in
+        let all = bytes-told there in
+        (omega arith, omega arith, omega arith, omega arith)
+
+    -- pages are printed
+    pub pages-printed : (out′ : List ℕ) (n : ℕ) → (n ≡ length (separated (pagesIn r room₁))) × (out′ ≡ laid out 0 (separated (pagesIn r room₁))) → FreshPrints out input out′ n
+    pages-printed out′ n (u, v) = (u ∙ ap length (sym lines), v ∙ ap (laid out 0) (sym lines))
+
+  module _ (h : r .number ≡ 0 → ⊥) where
+    -- the lines of a refusal fit
+    pub refused-fits : length (refusalLines (r .number) (r .page) (r .place)) ≤ length out
+    refused-fits = omega (arith, refusal-short (r .number) (r .page) (r .place))
+
+    -- and are printed
+    pub refused-printed : (out′ : List ℕ) (n : ℕ) → (n ≡ length (refusalLines (r .number) (r .page) (r .place))) × (out′ ≡ laid out 0 (refusalLines (r .number) (r .page) (r .place))) → FreshPrints out input out′ n
+    refused-printed out′ n (u, v) =
+        let e = refusal-lines (answered room₀ b ss ns) r (F .result-is) h ∙ sym printed-is in
+        (u ∙ ap length e, v ∙ ap (laid out 0) e)

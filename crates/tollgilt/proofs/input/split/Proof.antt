@@ -1,0 +1,50 @@
+-- `tollgilt::input::split` meets its contract: there are ten places for starts and lengths, and the pages lie in the input.
+-- Assumes nothing.
+use mathlib.Core.Path.{_≡_}
+use Prim.Native.Nat.{_≤_}
+use native.Mathlib.Omega.{arith}
+use lib.ListN.{length, length-take}
+use denote.Ref.{now}
+use borrow.Author.Needs.{needs}
+use Rattle.paper.specs.Listing.{parted}
+use Rattle.tollgilt.proofs.InputLaws.{split-read}
+use Rattle.tollgilt.proofs.input.split.Statement.{statement}
+use Rattle.tollgilt.proofs.input.split.Tie as tie
+
+module _ (c : tie.After-split-pages) where
+  -- there is room for ten starts and ten lengths
+  starts-ten : length (c .split-pages .last .1 .0) ≡ 10
+  starts-ten = search needs
+
+  lens-ten : length (c .split-pages .last .1 .1 .0) ≡ 10
+  lens-ten = search needs
+
+  -- which is as many as there are pages to hand in, or more
+  starts-many : c .split-pages .result ≤ length (c .split-pages .last .1 .0)
+  starts-many = omega (arith, starts-ten, c .split-pages .ensures .0, length-take 10 (parted (now (c .before .before .before .before .args .input))))
+
+  lens-many : c .split-pages .result ≤ length (c .split-pages .last .1 .1 .0)
+  lens-many = omega (arith, lens-ten, starts-ten, starts-many)
+
+slice-aggregate-split-pages : tie.Need-slice-aggregate-split-pages
+slice-aggregate-split-pages c = search needs
+
+slice-aggregate-split-pages-2 : tie.Need-slice-aggregate-split-pages-2
+slice-aggregate-split-pages-2 c = search needs
+
+split-pages-requires : tie.Need-split-pages-requires
+split-pages-requires c κs = search needs
+
+returns : tie.Need-returns
+returns c =
+    let P = c .before .before in
+    (starts-many P, lens-many P, split-read (now (P .before .before .before .before .args .input)) _ _ _ _ (P .split-pages .result) (P .split-pages .ensures) (omega (arith, starts-ten P)))
+
+pub split-spec : {M : Type 1} → statement M
+split-spec =
+    tie.close
+    (tie.spec
+    slice-aggregate-split-pages
+    slice-aggregate-split-pages-2
+    split-pages-requires
+    returns)
