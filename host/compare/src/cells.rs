@@ -183,12 +183,31 @@ fn catalogue(random: &mut Random) -> Vec<u8> {
     random.bytes(b"Katalog \0\xE4\xFF", length)
 }
 
+/// Gives some values of medications other ranges of the text: longer than their limit, beside a value that excludes them, or outside the text.
+fn stir(numbers: &mut Numbers, random: &mut Random) {
+    let end = numbers.text.len();
+    let records = numbers.rows.chunks_exact_mut(RECORD);
+    for record in records.filter(|record| record[0] == 2) {
+        while random.chance(60) {
+            let span = 2 + 2 * random.below(19);
+            let start = random.below(end + 1);
+            let left = end - start;
+            let lengths = [0, 1, 4, 7, 8, 15, 16, 50, 51, 80, 81, left, left + 1];
+            record[span] = start as u32;
+            record[span + 1] = *random.pick(&lengths) as u32;
+        }
+    }
+}
+
 /// Cells of the plan of this seed, and how many of them are refused.
 pub fn differences(seed: u64) -> (u64, Vec<String>) {
     let mut random = Random::new(seed ^ 0xCE11);
     let mut found = Vec::new();
     let mut refused = 0;
-    let numbers = inputs::numbers(seed);
+    let mut numbers = inputs::numbers(seed);
+    if random.chance(50) {
+        stir(&mut numbers, &mut random);
+    }
     for _ in 0..CELLS {
         let asked = asked(&numbers, &mut random);
         let catalogue = catalogue(&mut random);
