@@ -24,6 +24,11 @@ pub fn end() {
     io::write_all(STDOUT_FILENO, b"\n");
 }
 
+// The line for a command that is too short, or names no step.
+pub fn bad() {
+    io::write_all(STDOUT_FILENO, b"bad\n");
+}
+
 // The bytes up to an end.
 pub fn bytes(s: &[u8], end: usize)
     requires { ⌜ end ≤ length (now s) ⌝ }

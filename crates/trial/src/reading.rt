@@ -29,7 +29,7 @@ const ROW_PATTERN: u32 = 2779096485;
 const TEXT_PATTERN: u8 = 90;
 
 // The first line.
-fn tell_answer(a: Answer) {
+pub fn tell_answer(a: Answer) {
     word(b"answer");
     number(refusal_number(a));
     number(refusal_page(a));

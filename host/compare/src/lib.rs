@@ -3,6 +3,7 @@
 pub mod cells;
 pub mod collecting;
 pub mod numbers;
+pub mod printing;
 pub mod rounds;
 pub mod trial;
 pub mod writing;

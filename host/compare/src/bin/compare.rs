@@ -4,10 +4,11 @@
 //!   plans      plans in numbers that were made up, written
 //!   collector  sequences of a collector
 //!   cells      cells of plans in numbers
+//!   printed    what planlist and planfresh print
 
 use std::collections::BTreeMap;
 
-use compare::{cells, collecting, rounds, writing};
+use compare::{cells, collecting, printing, rounds, writing};
 
 /// What is counted beside the seeds: how often each thing happened.
 type Tally = BTreeMap<String, u64>;
@@ -51,6 +52,10 @@ fn cells(seed: u64, tally: &mut Tally) -> Vec<String> {
     found
 }
 
+fn printed(seed: u64, _: &mut Tally) -> Vec<String> {
+    printing::differences(seed)
+}
+
 fn main() {
     let words: Vec<String> = std::env::args().skip(1).collect();
     let number = |at: usize| words.get(at).and_then(|word| word.parse::<u64>().ok());
@@ -60,10 +65,11 @@ fn main() {
         Some("plans") => Some(plans),
         Some("collector") => Some(collector),
         Some("cells") => Some(cells),
+        Some("printed") => Some(printed),
         Some(_) => None,
     };
     let (Some(first), Some(count), Some(part)) = (number(0), number(1), part) else {
-        eprintln!("usage: compare FIRST COUNT [layers|fresh|plans|collector|cells]");
+        eprintln!("usage: compare FIRST COUNT [layers|fresh|plans|collector|cells|printed]");
         std::process::exit(2);
     };
     println!("seeds {first} to {}", first + count - 1);
