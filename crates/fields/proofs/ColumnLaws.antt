@@ -8,6 +8,8 @@ use native.Mathlib.Omega.{arith}
 use lib.Dec.{eqb, leb, ltb}
 use lib.ListN.{length, take, drop, getD, List·getD-map}
 use lib.Seq.{getD-take, getD-drop}
+use mir.Syntax.{w64}
+use mir.Val.{Fits}
 use borrow.Author.Tests.{eqb-true, leb-true}
 use Rattle.paper.specs.Lists.{same, every}
 use Rattle.paper.specs.Fields.{Kind, unknown, MP, P, A, O, S, M, W, R, X, code, Field, table, fieldsOf, tagName, excluded, most-of}
@@ -22,6 +24,16 @@ getD-of : {A : Type 0} (f : A → ℕ) (l : List A) (i : ℕ) (d : A) → i < le
 getD-of f [] i d h = absurd (omega arith)
 getD-of f (x ∷ l) zero d h = refl
 getD-of f (x ∷ l) (suc i) d h = getD-of f l i d (omega arith)
+
+-- the entries of a column of bytes
+small-entry : (l : List ℕ) (i : ℕ) → every (λ (x : ℕ). leb x 255) l ≡ true → getD l i 0 ≤ 255
+small-entry [] i e = omega arith
+small-entry (x ∷ l) zero e = leb-true x 255 (both (leb x 255) (every (λ (y : ℕ). leb y 255) l) e .0)
+small-entry (x ∷ l) (suc i) e = small-entry l i (both (leb x 255) (every (λ (y : ℕ). leb y 255) l) e .1)
+
+-- fit the widest number
+pub fits-entry : (l : List ℕ) (i : ℕ) → every (λ (x : ℕ). leb x 255) l ≡ true → Fits w64 (getD l i 0)
+fits-entry l i e = omega (arith, small-entry l i e)
 
 -- the letters of a field
 pub letters-at : (id : ℕ) → id < 52 → getD keyColumn id 0 ≡ keyOf (fieldAt id .letters)

@@ -130,7 +130,7 @@ pub fn first_of(element: u8) -> usize
     requires { ⌜ element < 10 ⌝ }
     ensures { λ r. ⌜ r ≡ firstOf (kindAt element) ⌝ }
 {
-    FIRSTS[element as usize]
+    FIRSTS[element as usize] as usize
 }
 
 // How many fields an element has.
@@ -138,7 +138,7 @@ pub fn count_of(element: u8) -> usize
     requires { ⌜ element < 10 ⌝ }
     ensures { λ r. ⌜ (r ≡ countOf (kindAt element)) × (firstOf (kindAt element) + r ≤ 52) ⌝ }
 {
-    COUNTS[element as usize]
+    COUNTS[element as usize] as usize
 }
 
 // How many of an element its parent may have; 0 is any number.
@@ -146,7 +146,7 @@ pub fn limit_of(element: u8) -> usize
     requires { ⌜ element < 10 ⌝ }
     ensures { λ r. ⌜ r ≡ most-of (kindAt element) ⌝ }
 {
-    MOST_OF[element as usize]
+    MOST_OF[element as usize] as usize
 }
 
 // An element's rank in the order inside MP, counted from 1; 0 for an element that stands elsewhere.
@@ -162,7 +162,7 @@ pub fn pairs_of(element: u8) -> usize
     requires { ⌜ element < 10 ⌝ }
     ensures { λ r. ⌜ r ≡ length (excluded (kindAt element)) ⌝ }
 {
-    PAIR_COUNTS[element as usize]
+    PAIR_COUNTS[element as usize] as usize
 }
 
 // The place of the one field of such a pair among its element's fields.
@@ -170,7 +170,7 @@ pub fn pair_one(element: u8, i: usize) -> usize
     requires { ⌜ (element < 10) × (i < length (excluded (kindAt element))) ⌝ }
     ensures { λ r. ⌜ r ≡ getD (onesOf (kindAt element)) i 0 ⌝ }
 {
-    PAIR_ONES[PAIR_FIRSTS[element as usize] + i]
+    PAIR_ONES[PAIR_FIRSTS[element as usize] as usize + i] as usize
 }
 
 // The place of the other field of such a pair.
@@ -178,7 +178,7 @@ pub fn pair_other(element: u8, i: usize) -> usize
     requires { ⌜ (element < 10) × (i < length (excluded (kindAt element))) ⌝ }
     ensures { λ r. ⌜ r ≡ getD (othersOf (kindAt element)) i 0 ⌝ }
 {
-    PAIR_OTHERS[PAIR_FIRSTS[element as usize] + i]
+    PAIR_OTHERS[PAIR_FIRSTS[element as usize] as usize + i] as usize
 }
 
 // The name of an element in its tags, as a key.
@@ -246,8 +246,8 @@ pub fn child(parent: u8, name: &[u8]) -> u8
 {
     let keys = CHILD_KEYS;
     let kinds = CHILD_KINDS;
-    let first = CHILD_FIRSTS[parent as usize];
-    let count = CHILD_COUNTS[parent as usize];
+    let first = CHILD_FIRSTS[parent as usize] as usize;
+    let count = CHILD_COUNTS[parent as usize] as usize;
     let i = find(&keys, first, first + count, key(name));
     if i < count {
         return kinds[first + i];

@@ -1,7 +1,7 @@
 // Whether a value keeps its field's rule: its bytes, its length, its line breaks, its form.
 ghost use mathlib.Core.Path.{_≡_};
-ghost use mathlib.Core.Bool.{_&&_};
-ghost use Prim.Native.Nat.{_<_};
+ghost use mathlib.Core.Bool.{true, _&&_};
+ghost use Prim.Native.Nat.{ℕ, _<_};
 ghost use lib.Dec.{leb};
 ghost use Rattle.paper.specs.Lists.{every, count};
 ghost use Rattle.paper.specs.Bytes.{isDecoded};
@@ -27,8 +27,37 @@ use crate::sets::all_in;
 use crate::sets::fits;
 use crate::sets::is_decoded;
 
-// Whether all bytes may stand in a value, and no more than so many of them are line breaks "~".
-fn is_text(v: &[u8], tildes: usize) -> bool
+// 0 for a byte that may stand in a value and is no line break "~", else 1.
+fn stops(b: u8) -> u8
+    ensures { λ r. ⌜ (r ≡ 0 → (isDecoded b ≡ true) × (b ≡ 126 → ⊥)) ⌝ }
+{
+    if b < 32 {
+        return 1;
+    }
+    if b < 126 {
+        return 0;
+    }
+    if b < 160 {
+        return 1;
+    }
+    0
+}
+
+// Whether all bytes may stand in a value and none is a line break. No byte ends the look early, so that many can be taken at once.
+fn is_line(v: &[u8]) -> bool
+    ensures { λ r. ⌜ (r ≡ true → (tildes : ℕ) → (every isDecoded (now (v .entry)) && leb (count 126 (now (v .entry))) tildes) ≡ true) ⌝ }
+{
+    let mut stopped = 0u8;
+    let mut i = 0;
+    while i < v.len() {
+        stopped = stopped | stops(v[i]);
+        i += 1;
+    }
+    stopped == 0
+}
+
+// Whether all bytes may stand in a value, and no more than so many of them are line breaks "~", byte by byte.
+fn is_text_each(v: &[u8], tildes: usize) -> bool
     ensures { λ r. ⌜ r ≡ (every isDecoded (now (v .entry)) && leb (count 126 (now (v .entry))) tildes) ⌝ }
 {
     let mut n = 0;
@@ -45,6 +74,16 @@ fn is_text(v: &[u8], tildes: usize) -> bool
         }
     }
     n <= tildes
+}
+
+// Whether all bytes may stand in a value, and no more than so many of them are line breaks; most values have none.
+fn is_text(v: &[u8], tildes: usize) -> bool
+    ensures { λ r. ⌜ r ≡ (every isDecoded (now (v .entry)) && leb (count 126 (now (v .entry))) tildes) ⌝ }
+{
+    if is_line(v) {
+        return true;
+    }
+    is_text_each(v, tildes)
 }
 
 // Whether the lines of a value, parted by "~", have at most 25 bytes each.

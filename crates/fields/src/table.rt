@@ -393,7 +393,7 @@ pub const MUSTS: [u8; 52] = [
 ];
 
 // The place of each element's first field, by the element's number; one past the table for an element without fields.
-pub const FIRSTS: [usize; 10] = [
+pub const FIRSTS: [u8; 10] = [
     52, // unknown
     0, // MP
     6, // P
@@ -407,7 +407,7 @@ pub const FIRSTS: [usize; 10] = [
 ];
 
 // How many fields each element has.
-pub const COUNTS: [usize; 10] = [
+pub const COUNTS: [u8; 10] = [
     0, // unknown
     6, // MP
     8, // P
@@ -461,7 +461,7 @@ pub const CHILD_KINDS: [u8; 9] = [
 ];
 
 // The place of the first name that a parent may hold, by the parent's number; number 10 is outside of all elements.
-pub const CHILD_FIRSTS: [usize; 11] = [
+pub const CHILD_FIRSTS: [u8; 11] = [
     0, // unknown
     0, // MP
     4, // P
@@ -476,7 +476,7 @@ pub const CHILD_FIRSTS: [usize; 11] = [
 ];
 
 // How many names a parent may hold.
-pub const CHILD_COUNTS: [usize; 11] = [
+pub const CHILD_COUNTS: [u8; 11] = [
     0, // unknown
     4, // MP
     0, // P
@@ -491,7 +491,7 @@ pub const CHILD_COUNTS: [usize; 11] = [
 ];
 
 // How many of an element its parent may have; 0 is any number.
-pub const MOST_OF: [usize; 10] = [
+pub const MOST_OF: [u8; 10] = [
     0, // unknown
     0, // MP
     1, // P
@@ -519,7 +519,7 @@ pub const RANKS: [u8; 10] = [
 ];
 
 // Of each two fields that exclude each other, the place of the one among its element's fields.
-pub const PAIR_ONES: [usize; 10] = [
+pub const PAIR_ONES: [u8; 10] = [
     0, // A: lanr or idf
     0, // A: lanr or kik
     1, // A: idf or kik
@@ -533,7 +533,7 @@ pub const PAIR_ONES: [usize; 10] = [
 ];
 
 // Of each two fields that exclude each other, the place of the other.
-pub const PAIR_OTHERS: [usize; 10] = [
+pub const PAIR_OTHERS: [u8; 10] = [
     1, // A: lanr or idf
     2, // A: lanr or kik
     2, // A: idf or kik
@@ -547,7 +547,7 @@ pub const PAIR_OTHERS: [usize; 10] = [
 ];
 
 // The place of each element's first excluded pair.
-pub const PAIR_FIRSTS: [usize; 10] = [
+pub const PAIR_FIRSTS: [u8; 10] = [
     0, // unknown
     0, // MP
     0, // P
@@ -561,7 +561,7 @@ pub const PAIR_FIRSTS: [usize; 10] = [
 ];
 
 // How many excluded pairs each element has.
-pub const PAIR_COUNTS: [usize; 10] = [
+pub const PAIR_COUNTS: [u8; 10] = [
     0, // unknown
     0, // MP
     0, // P

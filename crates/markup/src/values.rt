@@ -264,7 +264,21 @@ fn decode_each(page: &[u8], from: usize, to: usize, out: &mut [u8], at: usize) -
     n
 }
 
-// Whether the raw bytes from `from` to `to` are surely their own value: no reference, no control byte, no blank at the end.
+// 0 for a raw byte that stands for itself, else 1: an `&` or a control byte.
+fn odd(b: u8) -> u8
+    ensures { λ r. ⌜ (r ≡ 0 → (32 ≤ b) × (b ≡ 38 → ⊥)) ⌝ }
+{
+    if b < 32 {
+        return 1;
+    }
+    if b == 38 {
+        return 1;
+    }
+    0
+}
+
+// Whether the raw bytes from `from` to `to` are surely their own value: no reference, no control byte, no blank at the end. But for the last byte
+// none ends the look early, so that many can be taken at once.
 fn plain(page: &[u8], from: usize, to: usize) -> bool
     requires { ⌜ (from ≤ to) × (to ≤ length (now page)) ⌝ }
     ensures { λ r. ⌜ (r ≡ true → Paper.value (slice from to (now (page .entry))) ≡ slice from to (now (page .entry))) ⌝ }
@@ -272,24 +286,20 @@ fn plain(page: &[u8], from: usize, to: usize) -> bool
     if from == to {
         return true;
     }
-    let mut i = to - 1;
-    if page[i] < 33 {
+    let last = to - 1;
+    if page[last] < 33 {
         return false;
     }
-    if page[i] == 38 {
+    if page[last] == 38 {
         return false;
     }
-    while i > from {
-        let j = i - 1;
-        if page[j] < 32 {
-            return false;
-        }
-        if page[j] == 38 {
-            return false;
-        }
-        i = j;
+    let mut odds = 0u8;
+    let mut i = from;
+    while i < last {
+        odds = odds | odd(page[i]);
+        i += 1;
     }
-    true
+    odds == 0
 }
 
 // Writes the value of the raw bytes from `from` to `to` into `out` from `at` on, and returns the place behind it. No other byte of `out` changes.

@@ -5,6 +5,7 @@ use mathlib.Core.Logic.{_≢_}
 use mathlib.Core.List.{List, [], _∷_, _++_}
 use Prim.Native.Nat.{ℕ, zero, suc, _<_}
 use native.Mathlib.Omega.{arith}
+use lib.Bits.{bitOr, or-add-and, and-le-l, and-le-r}
 use lib.Dec.{eqb}
 use borrow.Author.Tests.{eqb-true, eqb-false, eq-eqb, ne-eqb}
 use Rattle.paper.specs.Lists.{if, same, every, All}
@@ -27,6 +28,10 @@ neither false b e = (refl, e)
 pub no-not : (a : Bool) → not a ≡ true → a ≡ false
 no-not true e = sym e
 no-not false e = refl
+
+-- two numbers are 0 where their bits together are
+pub both-zero : (a b : ℕ) → bitOr a b ≡ 0 → (a ≡ 0) × (b ≡ 0)
+both-zero a b e = (omega (arith, e, or-add-and a b, and-le-r a b), omega (arith, e, or-add-and a b, and-le-l a b))
 
 pub if-same : {A : Type 0} (b : Bool) (x : A) → if b x x ≡ x
 if-same true x = refl

@@ -1,27 +1,32 @@
 -- `fields::lookup::child` meets its contract: the parent's part of the names, searched for the name's key.
 -- Assumes nothing.
+use mathlib.Core.Path.{refl}
 use Prim.Native.Nat.{_-_}
 use native.Mathlib.Omega.{arith}
 use borrow.Author.Needs.{needs}
 use Rattle.paper.specs.Fields.{named}
 use Rattle.fields.specs.Places.{kindAt, under}
 use Rattle.fields.specs.Columns.{childKeyColumn, childKindColumn, childFirstColumn, childCountColumn}
-use Rattle.fields.proofs.ColumnLaws.{child-within, code-small}
+use Rattle.fields.proofs.ColumnLaws.{fits-entry, child-within, code-small}
 use Rattle.fields.proofs.FoundLaws.{child-found, child-none}
 use Rattle.fields.proofs.lookup.child.Statement.{statement}
 use Rattle.fields.proofs.lookup.child.Tie as tie
-
-mul-first : tie.Need-mul-first
-mul-first c = search needs
+use Rattle.fields.proofs.lookup.find.Reads as find-reads
+use Rattle.fields.proofs.lookup.key.Reads as key-reads
 
 array-read-first : tie.Need-array-read-first
 array-read-first c = search needs
 
-mul-count : tie.Need-mul-count
-mul-count c = search needs
+cast-first : tie.Need-cast-first
+unfolding childFirstColumn childCountColumn childKeyColumn childKindColumn under kindAt
+cast-first c = fits-entry childFirstColumn (c .before .args .parent) refl
 
 array-read-count : tie.Need-array-read-count
 array-read-count c = search needs
+
+cast-count : tie.Need-cast-count
+unfolding childFirstColumn childCountColumn childKeyColumn childKindColumn under kindAt
+cast-count c = fits-entry childCountColumn (c .before .args .parent) refl
 
 slice-aggregate-find : tie.Need-slice-aggregate-find
 slice-aggregate-find c = search needs
@@ -70,10 +75,10 @@ pub child-spec : {M : Type 1} → statement M
 child-spec =
     tie.close
     (tie.spec
-    mul-first
     array-read-first
-    mul-count
+    cast-first
     array-read-count
+    cast-count
     slice-aggregate-find
     add-find
     key-requires

@@ -1,26 +1,27 @@
--- `markup::values::plain` meets its contract: from the last byte on, the bytes behind each place are their own value.
+-- `markup::values::plain` meets its contract: while no byte is odd, the bytes are their own value if those to come are.
 -- Assumes nothing.
-use Prim.Native.Nat.{_-_, _≤_, _<_}
-use mathlib.Core.Path.{_≡_, sym}
-use native.Mathlib.Omega.{arith}
+
+use mathlib.Core.Path.{_≡_, refl, sym}
+use Prim.Native.Nat.{_+_, _-_, _≤_, _<_}
 use lib.ListN.{length}
-use Rattle.paper.proofs.Small.{no}
-use Rattle.markup.proofs.Plain.{Own, none, the-last, one-more}
+use borrow.Author.Tests.{eqb-true}
 use borrow.Author.Needs.{needs}
+use Rattle.paper.proofs.Small.{no, both-zero}
+use Rattle.markup.proofs.Plain.{Own, none, the-last, one-more}
 use Rattle.markup.proofs.values.plain.Statement.{statement}
 use Rattle.markup.proofs.values.plain.Tie as tie
 
 abbrev Inv-loop : tie.InvT-loop
-Inv-loop page from to i₀ i = (from ≤ i) × (i < to) × (to ≤ length page) × Own page to i
+Inv-loop page from to last odds₀ i₀ odds i = (from ≤ i) × (i < to) × (to ≤ length page) × (odds ≡ 0 → Own page to i → Own page to from)
 
 abbrev μ-loop : tie.MeasureT-loop
-μ-loop page from to i₀ i = i
+μ-loop page from to last odds₀ i₀ odds i = to - i
 
 returns : tie.Need-returns Inv-loop μ-loop
 returns c = λ e. none _ _ _ (c .if1 .taken)
 
-sub-i : tie.Need-sub-i Inv-loop μ-loop
-sub-i c = search needs
+sub-last : tie.Need-sub-last Inv-loop μ-loop
+sub-last c = search needs
 
 shared-slice-read-if2 : tie.Need-shared-slice-read-if2 Inv-loop μ-loop
 shared-slice-read-if2 c = search needs
@@ -35,38 +36,39 @@ returns-3 : tie.Need-returns-3 Inv-loop μ-loop
 returns-3 c = λ e. no (sym e)
 
 loop-holds : tie.Need-loop-holds Inv-loop μ-loop
-loop-holds c =
-    let S = c .before .before .before .before .before in
-    (search needs, search needs, search needs, the-last (S .args .page .now) (S .args .to) (S .pre .1) (S .args .to - 1) (search needs) (search needs) (c .if3 .left))
+loop-holds c = search needs
 
-sub-j : tie.Need-sub-j Inv-loop μ-loop
-sub-j c = search needs
+shared-slice-read-odd : tie.Need-shared-slice-read-odd Inv-loop μ-loop
+shared-slice-read-odd c = search needs
 
-shared-slice-read-if4 : tie.Need-shared-slice-read-if4 Inv-loop μ-loop
-shared-slice-read-if4 c = search needs
+odd-requires : tie.Need-odd-requires Inv-loop μ-loop
+odd-requires c κs = search needs
 
-returns-4 : tie.Need-returns-4 Inv-loop μ-loop
-returns-4 c = λ e. no (sym e)
-
-shared-slice-read-if5 : tie.Need-shared-slice-read-if5 Inv-loop μ-loop
-shared-slice-read-if5 c = search needs
-
-returns-5 : tie.Need-returns-5 Inv-loop μ-loop
-returns-5 c = λ e. no (sym e)
+add-i : tie.Need-add-i Inv-loop μ-loop
+add-i c = search needs
 
 loop-less : tie.Need-loop-less Inv-loop μ-loop
 loop-less c = search needs
 
 loop-again : tie.Need-loop-again Inv-loop μ-loop
 loop-again c =
-    let L = c .before .before .before .before .before in
-    (search needs, search needs, search needs, one-more _ _ (L .loop .inv .2) _ _ (search needs) (L .loop .inv .1) (search needs) (c .if5 .left) (L .loop .inv .3))
+    let L = c .before .before .before in
+    let I = L .loop .inv in (
+      search needs,
+      search needs,
+      I .2,
+      λ e o.
+          let z = both-zero (L .loop .odds) (c .odd .result) e in
+          let s = c .odd .ensures (z .1) in
+          I .3 (z .0) (one-more _ _ (I .2) (L .loop .i) (L .loop .i + 1) refl (search needs) (s .0) (s .1) o),
+    )
 
-returns-6 : tie.Need-returns-6 Inv-loop μ-loop
-returns-6 c = λ e.
+returns-4 : tie.Need-returns-4 Inv-loop μ-loop
+returns-4 c = λ e.
     let L = c .before in
-    let q : L .loop .i ≡ L .before .before .before .before .before .before .args .from = search needs in
-    rw (sym q) (L .loop .inv .3)
+    let S = L .before .before .before .before .before .before .before in
+    let q : L .loop .i ≡ S .args .to - 1 = search needs in
+    L .loop .inv .3 (eqb-true _ _ e) (rw q (the-last (S .args .page .now) (S .args .to) (S .pre .1) (S .args .to - 1) (search needs) (search needs) (L .before .if3 .left)))
 
 pub plain-spec : {M : Type 1} → statement M
 plain-spec =
@@ -75,17 +77,15 @@ plain-spec =
     Inv-loop
     μ-loop
     returns
-    sub-i
+    sub-last
     shared-slice-read-if2
     returns-2
     shared-slice-read-if3
     returns-3
     loop-holds
-    sub-j
-    shared-slice-read-if4
-    returns-4
-    shared-slice-read-if5
-    returns-5
+    shared-slice-read-odd
+    odd-requires
+    add-i
     loop-less
     loop-again
-    returns-6)
+    returns-4)

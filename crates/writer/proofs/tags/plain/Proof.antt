@@ -4,13 +4,12 @@ use mathlib.Core.Path.{_≡_, ap, _∙_}
 use mathlib.Core.List.{List, [], _∷_, _++_}
 use Prim.Native.Nat.{ℕ, _+_, _-_, _≤_, _<_}
 use native.Mathlib.Numerals.{add-one}
-use native.Mathlib.Omega.{arith}
-use lib.Bits.{bitOr, or-add-and, and-le-l, and-le-r}
 use lib.ListN.{length, getD}
 use lib.Seq.{slice, slice-cons, slice-empty}
 use borrow.Author.Tests.{eqb-true}
 use borrow.Author.Needs.{needs}
 use Rattle.paper.specs.Values.{esc, escape}
+use Rattle.paper.proofs.Small.{both-zero}
 use Rattle.writer.proofs.tags.plain.Statement.{statement}
 use Rattle.writer.proofs.tags.plain.Tie as tie
 
@@ -29,10 +28,6 @@ one-more w to i h k e o =
 -- no bytes are
 none : (w : List ℕ) (to i : ℕ) → i ≡ to → Own w to i
 none w to i e = rw (e, slice-empty to w)
-
--- two numbers are 0 where their bits together are
-both-zero : (a b : ℕ) → bitOr a b ≡ 0 → (a ≡ 0) × (b ≡ 0)
-both-zero a b e = (omega (arith, e, or-add-and a b, and-le-r a b), omega (arith, e, or-add-and a b, and-le-l a b))
 
 abbrev Inv-loop : tie.InvT-loop
 Inv-loop text from to grown₀ i₀ grown i = (from ≤ i) × (i ≤ to) × (to ≤ length text) × (grown ≡ 0 → Own text to i → Own text to from)
