@@ -8,7 +8,6 @@ use native.Mathlib.Nat.{le-of-suc-le-suc, not-suc-le-zero}
 use native.Mathlib.Omega.{arith}
 use lib.Dec.{eqb, leb}
 use lib.ListN.{length, take, drop, getD, replicate}
-use lib.Seq.{drop-drop}
 use borrow.Author.Tests.{ne-eqb, leb-true, leb-false, le-leb, lt-leb}
 use Rattle.paper.specs.Lists.{bytes, if, same, isEmpty}
 use Rattle.paper.specs.Fields.{M, W, Field, fieldsOf}
@@ -19,6 +18,7 @@ use Rattle.paper.specs.Cells.{ofM, ofW}
 use Rattle.paper.proofs.Small.{no, if-same}
 use Rattle.paper.proofs.CellLaws.{RowAt}
 use Rattle.plan.specs.Numbers.{recordAt, spanIn, spansIn, spansOf, twos, before, toLast, rowWith, absent, within}
+use Rattle.plan.proofs.Stores.{records-behind}
 use Rattle.plan.proofs.Doses.{shows}
 use Rattle.cell.specs.Numbered.{standsFor}
 
@@ -114,8 +114,7 @@ module _ (g : List ℕ → Row) (rs : ℕ → List ℕ → List Row) (step : (n 
   row-by zero rows i h = absurd (not-suc-le-zero h)
   row-by (suc n) rows zero h = rw (step n rows) refl
   row-by (suc n) rows (suc i) h =
-      let e : 48 + i * 48 ≡ suc i * 48 = omega arith in
-      let same-record : recordAt (drop 48 rows) i ≡ recordAt rows (suc i) = ap (take 48) (drop-drop (i * 48) 48 rows ∙ ap (λ (k : ℕ). drop k rows) e) in
+      let same-record : recordAt (drop 48 rows) i ≡ recordAt rows (suc i) = ap (take 48) (records-behind i rows) in
       rw (step n rows) (subst (λ (x : List ℕ). RowAt (rs n (drop 48 rows)) (suc i) (g x)) same-record (row-by n (drop 48 rows) i (le-of-suc-le-suc h)))
 
   -- the row of a number, counted from 1, is that of its record

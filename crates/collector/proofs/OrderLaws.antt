@@ -14,7 +14,7 @@ use borrow.Author.Tests.{le-leb, eqb-true, eqb-false}
 use Rattle.paper.specs.Lists.{if}
 use Rattle.paper.specs.Calls.{inside, pagesAt, roomy, readAt, readCall}
 use Rattle.paper.specs.Reading as Paper
-use Rattle.reader.specs.Lent.{rowsLent}
+use Rattle.plan.specs.Numbers.{rowsLent}
 use Rattle.reader.specs.Pages.{picked, firstOf}
 use Rattle.reader.specs.Promise.{Promised, answered}
 use Rattle.reader.specs.declared.reading.Reading.{Reading}

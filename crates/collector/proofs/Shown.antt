@@ -20,13 +20,12 @@ use Rattle.paper.specs.Collecting as Paper
 use Rattle.paper.specs.Collecting.{sheetsIn, pagesIn, bytesAt, agrees, missingNumbers, missingMask, missingCount, maskOf, readCollected}
 use Rattle.paper.proofs.Small.{no, same-self}
 use Rattle.paper.proofs.AnyOrder.{Perm}
+use Rattle.paper.proofs.ReadSound.{judges}
 use Rattle.paper.proofs.PageNumbers.{Numbered, numbered, two-to-eight, size-place}
 use Rattle.paper.proofs.Collected.{keep, Way, way, broken, stranger, here, second, fresh, Reached, empty, more, Holds, holds, agrees-first, Rising, up-to-nine, incomplete, as-handed-in, addAll, reached-all, fed-any-order}
 use Rattle.markup.specs.Laid.{laid}
 use Rattle.plan.proofs.Stores.{laid-long, laid-there, laid-before, laid-behind}
-use Rattle.sheet.specs.Judged.{verdictOf}
-use Rattle.sheet.proofs.JudgeLaws.{fine-content}
-use Rattle.reader.specs.Lent.{rowsLent}
+use Rattle.plan.specs.Numbers.{rowsLent}
 use Rattle.reader.specs.Pages.{firstOf}
 use Rattle.reader.specs.Answers as Reader
 use Rattle.reader.specs.declared.answer.Answer.the-variants.{NoRoom, OtherHead, NumberTwice}
@@ -228,8 +227,8 @@ module _ (c : Collector) (k : Paper.Collector) (R : Reached k) (S : Shows c k) w
           rw (j, alike s true a, S .pages-are (s .no) ∙ b, t) (record { answer-is = refl; shown = S })
       at (second s j a b e) = rw (j, alike s true a, S .pages-are (s .no) ∙ b, ap (same w) (S .bytes-are (s .no) b) ∙ e) (record { answer-is = (NumberTwice 1, refl, refl); shown = S })
       at (fresh s j a b) =
-          let (t, P) = fine-content w (ap verdictOf j) in
-          rw (j, alike s true a, S .pages-are (s .no) ∙ b) (record { answer-is = refl; shown = shows-more c k S w s (numbered w s j) (P .some-bytes) (P .few-bytes) b a })
+          let J = judges w s j in
+          rw (j, alike s true a, S .pages-are (s .no) ∙ b) (record { answer-is = refl; shown = shows-more c k S w s (numbered w s j) (J .some-bytes) (J .short) b a })
 
   -- a page of a buffer
   pub shows-call : (b : List ℕ) (start len : ℕ) → Adds (Paper.addCall k b start len) (addedCall c b start len)

@@ -12,7 +12,7 @@ use Rattle.paper.specs.Judging.{Sheet, Judged, refused, sheet, judge}
 use Rattle.paper.specs.Calls.{roomy}
 use Rattle.paper.specs.Reading as Paper
 use Rattle.markup.specs.Laid.{laid}
-use Rattle.reader.specs.Lent.{rowsLent}
+use Rattle.plan.specs.Numbers.{rowsLent}
 use Rattle.reader.specs.Pages.{picked, firstOf}
 use Rattle.reader.specs.Answers.{pageRefusal}
 use Rattle.reader.specs.declared.answer.Answer.the-variants.{NoRoom, OtherHead, NumberTwice}

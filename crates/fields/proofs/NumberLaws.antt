@@ -16,6 +16,7 @@ use Rattle.paper.specs.Bytes.{isDigit}
 use Rattle.paper.specs.Rules.{is-byte}
 use Rattle.paper.specs.Writing.{decimal, digitsOf}
 use Rattle.paper.proofs.Small.{both, no}
+use Rattle.paper.proofs.Canon.{number-up}
 
 -- ---- the number that digits show
 
@@ -52,10 +53,6 @@ number-over s to i a h = rw (drop-of-length-le s h, take-nil)
 -- the place is reached
 pub number-done : (s : List ℕ) (to i a : ℕ) → to ≤ i → number a (take (to - i) (drop i s)) ≡ a
 number-done s to i a h = let e : to - i ≡ 0 = omega arith in rw e
-
-number-up : (s : List ℕ) (a : ℕ) → 1 ≤ a → 1 ≤ number a s
-number-up [] a h = h
-number-up (c ∷ s) a h = number-up s (a * 10 + (c - 48)) (omega arith)
 
 -- digits show a number above zero when one of them is not the digit 0
 pub above : (s : List ℕ) → every isDigit s ≡ true → leb 1 (number 0 s) ≡ not (every (is-byte 48) s)

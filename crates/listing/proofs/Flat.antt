@@ -2,44 +2,22 @@
 -- Assumes nothing.
 use mathlib.Core.Path.{_≡_, refl, sym, ap, _∙_}
 use mathlib.Core.Bool.{Bool, true}
-use mathlib.Core.List.{List, [], _∷_, _++_, map, append-nil}
-use Prim.Native.Nat.{ℕ, zero, suc, _+_, _*_, _≤_, _<_}
-use native.Mathlib.Numerals.{add-one}
+use mathlib.Core.List.{List, [], _∷_, _++_, map}
+use Prim.Native.Nat.{ℕ, zero, suc, _+_, _*_, _≤_}
 use native.Mathlib.Omega.{arith}
-use lib.ListN.{length, take, drop, getD, set, drop-of-length-le}
-use Rattle.markup.proofs.LaidLaws.{Laying, told, next-byte, all-laid}
+use lib.ListN.{length, take, drop, getD}
 use Rattle.paper.specs.Lists.{bytes, every}
 use Rattle.paper.specs.Fields.{MP, P, A, O, edition, Field, fieldsOf}
 use Rattle.paper.specs.Plan.{Slots}
-use Rattle.paper.specs.Layout.{Span, shown, shownAll}
+use Rattle.paper.specs.Layout.{Span, shownAll}
 use Rattle.paper.specs.Writing.{decimal}
 use Rattle.paper.specs.Listing.{Line, line, path, fieldLines, headLines}
-use Rattle.paper.proofs.Small.{both}
 use Rattle.fields.specs.Places.{noField}
-use Rattle.plan.specs.Numbers.{paperSpan, flat, headWith}
+use Rattle.plan.specs.Numbers.{paperSpan, flat, headNumbers, headWith}
 use Rattle.plan.specs.declared.Span as Code
+use Rattle.plan.proofs.Spans.{shown-part, every-part}
 use Rattle.listing.specs.Written.{given}
 use Rattle.listing.specs.Numbered.{spanAt, spansAt, fieldsFrom, linesOf, mpLines}
-
--- ---- the numbers are laid span by span
-
--- a span's two numbers are stored
-pub numbers-turn : {numbers₀ numbers : List ℕ} (head : List Code.Span) (j : ℕ) (x : Code.Span) → j < 27 → length numbers₀ ≡ 54 → drop j head ≡ x ∷ drop (suc j) head
-    → Laying numbers₀ numbers 0 (2 * j) (flat (map paperSpan head)) (flat (map paperSpan (drop j head)))
-    → Laying numbers₀ (set (set numbers (2 * j) (x .at)) (2 * j + 1) (x .len)) 0 (2 * (j + 1)) (flat (map paperSpan head)) (flat (map paperSpan (drop (j + 1) head)))
-numbers-turn head j x h l e L =
-    let f : 2 * (j + 1) ≡ 2 * j + 1 + 1 = omega arith in
-    rw (f, add-one j) (next-byte (next-byte (told L (ap (λ (r : List Code.Span). flat (map paperSpan r)) e)) (omega arith)) (omega arith))
-
--- all of them are stored
-pub numbers-done : {numbers₀ numbers : List ℕ} (head : List Code.Span) (j : ℕ) → 27 ≤ j → j ≤ 27 → length head ≡ 27 → length numbers₀ ≡ 54
-    → Laying numbers₀ numbers 0 (2 * j) (flat (map paperSpan head)) (flat (map paperSpan (drop j head))) → numbers ≡ flat (map paperSpan head)
-numbers-done {numbers₀} {numbers} head j h k l m L =
-    let all : List ℕ = flat (map paperSpan head) in
-    let none : drop j head ≡ [] = drop-of-length-le head {i = j} (omega arith) in
-    let D = all-laid (omega arith) (told L (ap (λ (r : List Code.Span). flat (map paperSpan r)) none)) in
-    let behind : drop (0 + length all) numbers₀ ≡ [] = drop-of-length-le numbers₀ {i = 0 + length all} (omega (arith, D .0)) in
-    D .1 ∙ rw behind (append-nil all)
 
 -- ---- the spans are found again among their numbers
 
@@ -48,47 +26,29 @@ unfolding spansAt
 shift zero k x y l = refl
 shift (suc n) k x y l = ap (λ (r : List Span). spanAt l k ∷ r) (shift n (suc (suc k)) x y l)
 
--- n spans from span j on
-pub spans-flat : (ss : List Span) (j n : ℕ) → j + n ≤ length ss → spansAt n (2 * j) (flat ss) ≡ take n (drop j ss)
+behind-two : (ss : List Span) (j n : ℕ) → j + n ≤ length ss → spansAt n (2 * j) (flat ss) ≡ take n (drop j ss)
 unfolding spansAt
-spans-flat ss zero zero h = refl
-spans-flat [] zero (suc n) h = absurd (omega arith)
-spans-flat (s ∷ ss) zero (suc n) h = ap (λ (r : List Span). s ∷ r) (shift n 0 (s .at) (s .len) (flat ss) ∙ spans-flat ss zero n (omega arith))
-spans-flat [] (suc j) n h = absurd (omega arith)
-spans-flat (s ∷ ss) (suc j) n h =
+behind-two ss zero zero h = refl
+behind-two [] zero (suc n) h = absurd (omega arith)
+behind-two (s ∷ ss) zero (suc n) h = ap (λ (r : List Span). s ∷ r) (shift n 0 (s .at) (s .len) (flat ss) ∙ behind-two ss zero n (omega arith))
+behind-two [] (suc j) n h = absurd (omega arith)
+behind-two (s ∷ ss) (suc j) n h =
     let e : 2 * suc j ≡ suc (suc (2 * j)) = omega arith in
-    ap (λ (k : ℕ). spansAt n k (flat (s ∷ ss))) e ∙ shift n (2 * j) (s .at) (s .len) (flat ss) ∙ spans-flat ss j n (omega arith)
+    ap (λ (k : ℕ). spansAt n k (flat (s ∷ ss))) e ∙ shift n (2 * j) (s .at) (s .len) (flat ss) ∙ behind-two ss j n (omega arith)
+
+-- n spans from span j on
+pub spans-flat : (ss : List Span) (j n : ℕ) → j + n ≤ length ss → spansAt n (2 + 2 * j) (headNumbers ss) ≡ take n (drop j ss)
+spans-flat ss j n h = let e : 2 + 2 * j ≡ suc (suc (2 * j)) = omega arith in ap (λ (k : ℕ). spansAt n k (headNumbers ss)) e ∙ shift n (2 * j) 0 0 (flat ss) ∙ behind-two ss j n h
 
 -- ---- parts of what spans show
 
-shown-take : (t : List ℕ) (n : ℕ) (ss : List Span) → take n (shownAll t ss) ≡ shownAll t (take n ss)
-shown-take t zero ss = refl
-shown-take t (suc n) [] = refl
-shown-take t (suc n) (s ∷ ss) = ap (λ (l : Slots). shown t s ∷ l) (shown-take t n ss)
-
-shown-drop : (t : List ℕ) (n : ℕ) (ss : List Span) → drop n (shownAll t ss) ≡ shownAll t (drop n ss)
-shown-drop t zero ss = refl
-shown-drop t (suc n) [] = refl
-shown-drop t (suc n) (s ∷ ss) = shown-drop t n ss
-
 -- the values of n spans from span j on
-pub part-shown : (t : List ℕ) (ss : List Span) (j n : ℕ) → j + n ≤ length ss → take n (drop j (shownAll t ss)) ≡ shownAll t (spansAt n (2 * j) (flat ss))
-part-shown t ss j n h = ap (take n) (shown-drop t j ss) ∙ shown-take t n (drop j ss) ∙ ap (shownAll t) (sym (spans-flat ss j n h))
+pub part-shown : (t : List ℕ) (ss : List Span) (j n : ℕ) → j + n ≤ length ss → take n (drop j (shownAll t ss)) ≡ shownAll t (spansAt n (2 + 2 * j) (headNumbers ss))
+part-shown t ss j n h = shown-part t ss j n ∙ ap (shownAll t) (sym (spans-flat ss j n h))
 
-module _ (p : Span → Bool) where
-  every-take : (n : ℕ) (ss : List Span) → every p ss ≡ true → every p (take n ss) ≡ true
-  every-take zero ss e = refl
-  every-take (suc n) [] e = refl
-  every-take (suc n) (s ∷ ss) e = let (a, b) = both (p s) (every p ss) e in rw (a, every-take n ss b)
-
-  every-drop : (n : ℕ) (ss : List Span) → every p ss ≡ true → every p (drop n ss) ≡ true
-  every-drop zero ss e = e
-  every-drop (suc n) [] e = refl
-  every-drop (suc n) (s ∷ ss) e = every-drop n ss (both (p s) (every p ss) e .1)
-
-  -- what holds of all spans holds of n of them from span j on
-  pub part-every : (ss : List Span) (j n : ℕ) → j + n ≤ length ss → every p ss ≡ true → every p (spansAt n (2 * j) (flat ss)) ≡ true
-  part-every ss j n h e = ap (every p) (spans-flat ss j n h) ∙ every-take n (drop j ss) (every-drop j ss e)
+-- what holds of all spans holds of n of them from span j on
+pub part-every : (p : Span → Bool) (ss : List Span) (j n : ℕ) → j + n ≤ length ss → every p ss ≡ true → every p (spansAt n (2 + 2 * j) (headNumbers ss)) ≡ true
+part-every p ss j n h e = ap (every p) (spans-flat ss j n h) ∙ every-part p ss j n e
 
 -- ---- the lines of the head
 
@@ -124,16 +84,16 @@ two-first t (s ∷ r ∷ ss) h = refl
 -- the lines of a head are those of MP, P, A and O, one behind the other
 pub head-is : (patch : ℕ) (t : List ℕ) (ss : List Span) → length ss ≡ 27
     → headLines (headWith patch (shownAll t ss))
-    ≡ mpLines patch t (flat ss) ++ (linesOf (bytes "MP.P.") 6 8 t 4 (flat ss) ++ (linesOf (bytes "MP.A.") 14 10 t 20 (flat ss) ++ linesOf (bytes "MP.O.") 24 7 t 40 (flat ss)))
+    ≡ mpLines patch t (headNumbers ss) ++ (linesOf (bytes "MP.P.") 6 8 t 6 (headNumbers ss) ++ (linesOf (bytes "MP.A.") 14 10 t 22 (headNumbers ss) ++ linesOf (bytes "MP.O.") 24 7 t 42 (headNumbers ss)))
 head-is patch t ss h =
     let vs : Slots = shownAll t ss in
-    let two : getD vs 0 [] ∷ getD vs 1 [] ∷ [] ≡ shownAll t (spansAt 2 0 (flat ss)) = two-first t ss (omega arith) ∙ part-shown t ss 0 2 (omega arith) in
+    let two : getD vs 0 [] ∷ getD vs 1 [] ∷ [] ≡ shownAll t (spansAt 2 2 (headNumbers ss)) = two-first t ss (omega arith) ∙ part-shown t ss 0 2 (omega arith) in
     rw (mp-is (decimal patch) (getD vs 0 []) (getD vs 1 []), two, head-fields .0, head-fields .1, head-fields .2, part-shown t ss 2 8 (omega arith), part-shown t ss 10 10 (omega arith), part-shown t ss 20 7 (omega arith))
 
 -- the same with the numbers by another name
-pub head-by : (patch : ℕ) (t : List ℕ) (ss : List Span) (l : List ℕ) → length ss ≡ 27 → l ≡ flat ss
+pub head-by : (patch : ℕ) (t : List ℕ) (ss : List Span) (l : List ℕ) → length ss ≡ 27 → l ≡ headNumbers ss
     → headLines (headWith patch (shownAll t ss))
-    ≡ mpLines patch t l ++ (linesOf (bytes "MP.P.") 6 8 t 4 l ++ (linesOf (bytes "MP.A.") 14 10 t 20 l ++ linesOf (bytes "MP.O.") 24 7 t 40 l))
+    ≡ mpLines patch t l ++ (linesOf (bytes "MP.P.") 6 8 t 6 l ++ (linesOf (bytes "MP.A.") 14 10 t 22 l ++ linesOf (bytes "MP.O.") 24 7 t 42 l))
 head-by patch t ss l h e = rw e (head-is patch t ss h)
 
 -- there are as many spans as the code has

@@ -3,24 +3,22 @@
 use mathlib.Core.Path.{_≡_, refl, sym, ap, _∙_}
 use mathlib.Core.Bool.{Bool, true, false, _&&_}
 use mathlib.Core.List.{List, [], _∷_, _++_, append-nil, append-assoc}
-use Prim.Native.Nat.{ℕ, zero, suc, _+_, _*_, _-_, _≤_, _<_}
+use Prim.Native.Nat.{ℕ, zero, suc, _+_, _*_, _≤_, _<_}
 use native.Mathlib.Nat.{le-of-suc-le-suc, not-suc-le-zero}
 use native.Mathlib.Omega.{arith}
-use lib.Dec.{eqb}
 use lib.ListN.{length, take, drop, getD, drop-of-length-le}
 use lib.Seq.{drop-drop}
 use Rattle.paper.specs.Lists.{bytes, if, every}
 use Rattle.paper.specs.Fields.{Kind, unknown, S, M, W, R, X, is, Field, fieldsOf}
 use Rattle.paper.specs.Plan.{Slots, Row}
 use Rattle.paper.specs.Judging.{allEmpty}
-use Rattle.paper.specs.Layout.{Span, shown, shownAll}
+use Rattle.paper.specs.Layout.{Span, shownAll}
 use Rattle.paper.specs.Writing.{decimal}
 use Rattle.paper.specs.Listing.{Line, line, path, fieldLines, elementLines, wLines, rowMark, rowLines, rowsLines, print}
 use Rattle.paper.proofs.Small.{both}
 use Rattle.plan.specs.Numbers.{recordAt, spanIn, spansIn, spansOf, kindShown, ownSpans, twos, before, toLast, rowWith, showRow, showRows, within, inText, knownKind, spareAbsent, fitRecord, fitRows}
-use Rattle.plan.specs.Records.{paperKind, codeKind}
-use Rattle.plan.proofs.Stores.{record-number}
-use Rattle.plan.proofs.Doses.{each-span}
+use Rattle.plan.proofs.Stores.{record-number, records-behind}
+use Rattle.plan.proofs.Spans.{every-part, spans-part, part-shown}
 use Rattle.plan.proofs.Shown.{row-next, rows-shown}
 use Rattle.listing.specs.Written.{given}
 use Rattle.listing.specs.Numbered.{spanAt, spansAt, fieldsFrom, linesOf, spanPlace, plainRow, substanceLines, medicationRow}
@@ -45,63 +43,25 @@ spans-in-place rows i (suc n) j h =
     ap (λ (s : Span). s ∷ spansIn n (suc j) (recordAt rows i)) (span-at-place rows i j (omega arith))
     ∙ ap (λ (r : List Span). spanAt rows (spanPlace i j) ∷ r) (spans-in-place rows i n (suc j) (omega arith) ∙ ap (λ (k : ℕ). spansAt n k rows) e)
 
-module _ (p : Span → Bool) (l : List ℕ) where
-  all-spans : (n j : ℕ) → ((i : ℕ) → i < n → p (spanIn l (j + i)) ≡ true) → every p (spansIn n j l) ≡ true
-  unfolding spansIn
-  all-spans zero j f = refl
-  all-spans (suc n) j f =
-      let q : j + 0 ≡ j = omega arith in
-      rw (ap (λ (k : ℕ). p (spanIn l k)) (sym q) ∙ f 0 (omega arith))
-      (all-spans n (suc j) (λ i h. let r : suc j + i ≡ j + suc i = omega arith in ap (λ (k : ℕ). p (spanIn l k)) r ∙ f (suc i) (omega arith)))
-
 -- the spans of a row that points nowhere outside the text lie within it
 pub spans-inside : (t rows : List ℕ) (i n j : ℕ) → j + n ≤ 19 → inText t (recordAt rows i) ≡ true → every (within (length t)) (spansAt n (spanPlace i j) rows) ≡ true
 unfolding inText
 spans-inside t rows i n j h e =
-    let p : Span → Bool = within (length t) in
-    ap (every p) (sym (spans-in-place rows i n j h))
-    ∙ all-spans p (recordAt rows i) n j (λ m q. let z : 0 + (j + m) ≡ j + m = omega arith in ap (λ (k : ℕ). p (spanIn (recordAt rows i) k)) (sym z) ∙ each-span p 19 0 (recordAt rows i) e (j + m) (omega arith))
-
--- ---- a row's kind
-
-kind-told : (a b c d : Bool) → paperKind (codeKind (if a S (if b M (if c R (if d X unknown))))) ≡ if a S (if b M (if c R (if d X unknown)))
-kind-told true b c d = refl
-kind-told false true c d = refl
-kind-told false false true d = refl
-kind-told false false false true = refl
-kind-told false false false false = refl
-
--- the kind that a number shows is told by the code's
-pub kind-is : (n : ℕ) → kindShown n ≡ paperKind (codeKind (kindShown n))
-kind-is n = sym (kind-told (eqb n 1) (eqb n 2) (eqb n 3) (eqb n 4))
+    let l : List ℕ = recordAt rows i in
+    let z : 0 + j ≡ j = omega arith in
+    let own : take n (drop j (spansOf l)) ≡ spansAt n (spanPlace i j) rows = spans-part l 19 j n 0 h ∙ ap (λ (k : ℕ). spansIn n k l) z ∙ spans-in-place rows i n j h in
+    ap (every (within (length t))) (sym own) ∙ every-part (within (length t)) (spansOf l) j n e
 
 -- ---- a row's lines
 
 plain-with : (k : Kind) (n : ℕ) (vs : Slots) → is k M ≡ false → rowLines (rowWith k n vs) ≡ line (bytes "row") (rowMark k) ∷ elementLines k (take (ownSpans k) vs)
 plain-with k n vs e = rw e (ap (λ (r : List Line). line (bytes "row") (rowMark k) ∷ r) (append-nil (elementLines k (take (ownSpans k) vs))))
 
-front-shown : (t l : List ℕ) (m n j : ℕ) → n ≤ m → take n (shownAll t (spansIn m j l)) ≡ shownAll t (spansIn n j l)
-unfolding spansIn
-front-shown t l m zero j h = refl
-front-shown t l zero (suc n) j h = absurd (omega arith)
-front-shown t l (suc m) (suc n) j h = ap (λ (r : Slots). shown t (spanIn l j) ∷ r) (front-shown t l m n (suc j) (omega arith))
-
-behind-shown : (t l : List ℕ) (m n j : ℕ) → n ≤ m → drop n (shownAll t (spansIn m j l)) ≡ shownAll t (spansIn (m - n) (j + n) l)
-unfolding spansIn
-behind-shown t l m zero j h = let a : m - 0 ≡ m = omega arith in let b : j + 0 ≡ j = omega arith in rw (a, b)
-behind-shown t l zero (suc n) j h = absurd (omega arith)
-behind-shown t l (suc m) (suc n) j h =
-    let a : suc m - suc n ≡ m - n = omega arith in
-    let b : j + suc n ≡ suc j + n = omega arith in
-    rw (a, b) (behind-shown t l m n (suc j) (omega arith))
-
 -- the values of n spans of a record, from span j on
 pub part-of-row : (t rows : List ℕ) (i n j : ℕ) → j + n ≤ 19 → take n (drop j (shownAll t (spansOf (recordAt rows i)))) ≡ shownAll t (spansAt n (spanPlace i j) rows)
 part-of-row t rows i n j h =
     let z : 0 + j ≡ j = omega arith in
-    ap (take n) (behind-shown t (recordAt rows i) 19 j 0 (omega arith) ∙ ap (λ (k : ℕ). shownAll t (spansIn (19 - j) k (recordAt rows i))) z)
-    ∙ front-shown t (recordAt rows i) (19 - j) n j (omega arith)
-    ∙ ap (shownAll t) (spans-in-place rows i n j h)
+    part-shown (recordAt rows i) t 19 j n 0 h ∙ ap (λ (k : ℕ). shownAll t (spansIn n k (recordAt rows i))) z ∙ ap (shownAll t) (spans-in-place rows i n j h)
 
 -- a row that is no medication
 pub plain-is : (t rows : List ℕ) (i : ℕ) (k : Kind) (first : ℕ) → kindShown (getD (recordAt rows i) 0 0) ≡ k → is k M ≡ false → ownSpans k ≤ 19 → fieldsOf k ≡ fieldsFrom first (ownSpans k)
@@ -181,8 +141,7 @@ row-inside t (suc n) rows zero h e =
     both (inText t (take 48 rows)) (spareAbsent (take 48 rows)) d .0
 row-inside t (suc n) rows (suc i) h e =
     let (a, b) = both (fitRecord t (take 48 rows)) (fitRows t n (drop 48 rows)) e in
-    let q : 48 + i * 48 ≡ suc i * 48 = omega arith in
-    ap (λ (l : List ℕ). inText t (take 48 l)) (sym (drop-drop (i * 48) 48 rows ∙ ap (λ (k : ℕ). drop k rows) q)) ∙ row-inside t n (drop 48 rows) i (le-of-suc-le-suc h) b
+    ap (λ (l : List ℕ). inText t (take 48 l)) (sym (records-behind i rows)) ∙ row-inside t n (drop 48 rows) i (le-of-suc-le-suc h) b
 
 -- the lines of the rows from row i on
 abbrev pub rowsLeft : List ℕ → ℕ → List ℕ → ℕ → List ℕ

@@ -30,9 +30,9 @@ linesOf path first n t k l = fieldLines path (fieldsFrom first n) (shownAll t (s
 
 -- ---- the lines of a head and of rows, from their numbers
 
--- the lines of MP: v, p unless it is 0, U and l, the spans of these two first among the numbers
+-- the lines of MP: v, p unless it is 0, U and l, the spans of these two from place 2 of the numbers on
 abbrev pub mpLines : ℕ → List ℕ → List ℕ → List Line
-mpLines patch t l = line (bytes "MP.v") edition ∷ (given (bytes "MP.p") (decimal patch) ++ linesOf (bytes "MP.") 2 2 t 0 l)
+mpLines patch t l = line (bytes "MP.v") edition ∷ (given (bytes "MP.p") (decimal patch) ++ linesOf (bytes "MP.") 2 2 t 2 l)
 
 -- the place of span j of row i among the numbers
 abbrev pub spanPlace : ℕ → ℕ → ℕ

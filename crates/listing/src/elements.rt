@@ -7,13 +7,14 @@ ghost use lib.ListN.{length};
 ghost use Rattle.paper.specs.Lists.{every};
 ghost use Rattle.paper.specs.Layout.{shownAll};
 ghost use Rattle.paper.specs.Listing.{print, headLines};
-ghost use Rattle.plan.specs.Numbers.{within, paperSpan, flat, headWith};
+ghost use Rattle.plan.specs.Numbers.{within, paperSpan, headWith};
 ghost use Rattle.listing.specs.Written.{Wrote};
 ghost use Rattle.listing.specs.Numbered.{spansAt, linesOf, mpLines};
 use crate::lines::field_line;
 use crate::lines::number_line;
 use crate::lines::text_line;
 use plan::Span;
+use plan::head_numbers;
 
 // Where the fields of the head's elements begin in the table: U of MP, and the first ones of P, A and O.
 const MP_U: usize = 2;
@@ -61,31 +62,16 @@ pub fn fields(
     a
 }
 
-// The spans of the head as numbers, two to a span.
-pub fn head_numbers(head: [Span; 27]) -> [u32; 54]
-    ensures { λ r. ⌜ r ≡ flat (map paperSpan head) ⌝ }
-{
-    let mut numbers = [0u32; 54];
-    let mut j = 0;
-    while j < 27 {
-        let s = head[j];
-        numbers[2 * j] = s.at;
-        numbers[2 * j + 1] = s.len;
-        j += 1;
-    }
-    numbers
-}
-
 // Writes the lines of MP: the edition, the patch unless it is 0, U and l.
 fn mp_lines(out: &mut [u8], at: usize, patch: u32, text: &[u8], numbers: &[u32]) -> usize
-    requires { ⌜ (4 ≤ length (now numbers))
-        × (every (within (length (now text))) (spansAt 2 0 (now numbers)) ≡ true)
+    requires { ⌜ (6 ≤ length (now numbers))
+        × (every (within (length (now text))) (spansAt 2 2 (now numbers)) ≡ true)
         × (at + length (print (mpLines patch (now text) (now numbers))) ≤ length (now out)) ⌝ }
     ensures { λ r. ⌜ Wrote (now (out .entry)) (now (out .exit)) at r (print (mpLines patch (now (text .entry)) (now (numbers .entry)))) ⌝ }
 {
     let a = text_line(out, at, b"MP.v", b"027");
     let b = number_line(out, a, b"MP.p", patch);
-    fields(out, b, b"MP.", MP_U, 2, text, numbers, 0)
+    fields(out, b, b"MP.", MP_U, 2, text, numbers, 2)
 }
 
 // Writes the lines of a head with these spans, and returns the place behind them.
@@ -96,7 +82,7 @@ pub fn head_lines(out: &mut [u8], at: usize, patch: u32, head: [Span; 27], text:
 {
     let numbers = head_numbers(head);
     let a = mp_lines(out, at, patch, text, &numbers);
-    let b = fields(out, a, b"MP.P.", P_G, 8, text, &numbers, 4);
-    let c = fields(out, b, b"MP.A.", A_LANR, 10, text, &numbers, 20);
-    fields(out, c, b"MP.O.", O_AI, 7, text, &numbers, 40)
+    let b = fields(out, a, b"MP.P.", P_G, 8, text, &numbers, 6);
+    let c = fields(out, b, b"MP.A.", A_LANR, 10, text, &numbers, 22);
+    fields(out, c, b"MP.O.", O_AI, 7, text, &numbers, 42)
 }

@@ -148,7 +148,7 @@ first-zero : (k n a b : ℕ) (x : Answer) (p : Plan) → first k (refusal n a b)
 first-zero zero n a b x p e = (refl, e)
 first-zero (suc k) n a b x p e = no (sym (ap isPlan e))
 
-abbrev planOf : Plan → Answer → Plan
+abbrev pub planOf : Plan → Answer → Plan
 planOf d (refusal n k i) = d
 planOf d (plan p) = p
 

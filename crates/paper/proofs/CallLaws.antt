@@ -86,7 +86,7 @@ pub record Inside (b ss ns : List ℕ) : Type 0 where
   pub alike : length ss ≡ length ns
   pub ends : (j : ℕ) → j < length ss → getD ss j 0 + getD ns j 0 ≤ length b
 
-inside-true : (b ss ns : List ℕ) → inside b ss ns ≡ true → Inside b ss ns
+pub inside-true : (b ss ns : List ℕ) → inside b ss ns ≡ true → Inside b ss ns
 inside-true b [] [] e = record { alike = refl; ends = λ j h. absurd (omega arith) }
 inside-true b [] (n ∷ ns) e = no (sym e)
 inside-true b (s ∷ ss) [] e = no (sym e)
@@ -99,7 +99,8 @@ inside-true b (s ∷ ss) (n ∷ ns) e =
     at x y zero h = x
     at x y (suc j) h = y j (omega arith)
 
-pages-count : (b ss ns : List ℕ) → inside b ss ns ≡ true → length (pagesAt b ss ns) ≡ length ss
+-- as many pages as starts
+pub pages-count : (b ss ns : List ℕ) → inside b ss ns ≡ true → length (pagesAt b ss ns) ≡ length ss
 pages-count b [] ns e = refl
 pages-count b (s ∷ ss) [] e = no (sym e)
 pages-count b (s ∷ ss) (n ∷ ns) e = ap suc (pages-count b ss ns (both (leb (s + n) (length b)) (inside b ss ns) e .1))

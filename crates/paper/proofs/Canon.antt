@@ -22,7 +22,7 @@ strip (c ∷ s) = if (eqb c 48) (strip s) (c ∷ s)
 digit-range : (c : ℕ) → isDigit c ≡ true → (48 ≤ c) × (c ≤ 57)
 digit-range c e = let (a, b) = both (leb 48 c) (leb c 57) e in (leb-true 48 c a, leb-true c 57 b)
 
-number-up : (s : List ℕ) (a : ℕ) → 1 ≤ a → 1 ≤ number a s
+pub number-up : (s : List ℕ) (a : ℕ) → 1 ≤ a → 1 ≤ number a s
 number-up [] a h = h
 number-up (c ∷ s) a h = number-up s (a * 10 + (c - 48)) (omega arith)
 

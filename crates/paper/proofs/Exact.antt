@@ -14,7 +14,7 @@ use Rattle.paper.specs.Bytes.{isSpace, isDigit, isLetter}
 use Rattle.paper.proofs.Small.{no}
 use Rattle.paper.specs.Grammar.{Attr, Tag, start, end, amp, lt, gt, quot, apos, plain, space, attr, done, bare, full, close, Space, isNameByte, isHex, isPlain, Pass, Ref, Raw, Quote, double, single, Attrs, Rest, Page, ref, dec, hex}
 use Rattle.paper.specs.Machine.{InRef, RefMove, bad, on, over, State, Open, Half, Move, go, say, stop, before, after, less, tag, gap, slash, name, equals, quote, val, ref, inside, closing, amp0, ampa, num0, hex0, word, dec, hex, more, up, gapStep, step, refStep, refGoes, prefix, follow, scan, isAfter}
-use Rattle.paper.proofs.Taken.{taken-page}
+use Rattle.paper.proofs.Taken.{grown, ended, opened, taken-page}
 
 -- ---- what may follow, by state
 
@@ -24,9 +24,6 @@ data EndL (i : ℕ) (n : List ℕ) (l : List Attr) (ns : List (List ℕ)) : List
 
 abbrev RGap : Bool → Open → List ℕ → List Tag → Type 0
 RGap b T w t = (a x : List ℕ) × (l′ : List Attr) × Attrs b a l′ × (w ≡ a ++ x) × EndL (T .from) (T .tag) (T .ats ++ l′) (T .out) x t
-
-abbrev ended : Open → List ℕ → List ℕ → Open
-ended T n r = record { from = T .from; tag = T .tag; ats = T .ats ++ record { name = n; raw = r } ∷ []; out = T .out }
 
 abbrev RVal : Half → List ℕ → List Tag → Type 0
 RVal H w t = (r x : List ℕ) × Raw (H .quote) r × (w ≡ r ++ H .quote ∷ x) × RGap false (ended (H .top) (H .name) (H .raw ++ r)) x t
@@ -45,12 +42,6 @@ RefRest hex0 s = Ref (35 ∷ 120 ∷ s)
 RefRest dec s = (d : List ℕ) × All (Pass isDigit) d × (s ≡ d ++ 59 ∷ [])
 RefRest hex s = (d : List ℕ) × All (Pass isHex) d × (s ≡ d ++ 59 ∷ [])
 RefRest (word d m) s = s ≡ d ∷ m
-
-abbrev grown : Half → List ℕ → Half
-grown H s = record { top = H .top; name = H .name; quote = H .quote; raw = H .raw ++ s }
-
-abbrev opened : ℕ → List ℕ → List Attr → List (List ℕ) → Open
-opened i n l ns = record { from = i; tag = n; ats = l; out = ns }
 
 abbrev Left : State → List ℕ → List Tag → Type 0
 Left before w t = Page w t

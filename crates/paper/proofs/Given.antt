@@ -109,6 +109,26 @@ pub fault-off : (b : Bool) (n i : ℕ) → fault b n i ≡ [] → b ≡ false
 fault-off true n i e = let y : _≡_ {A = ℕ} 0 1 = cc in absurd (omega arith)
 fault-off false n i e = refl
 
+-- what it takes that an element's own tag has no fault
+pub record Clear (k : Kind) (ns : List (List ℕ)) (vs : Slots) : Type 0 where
+  pub known : (not (every (λ n. elem n (lettersOf (fieldsOf k))) ns) || twice ns) ≡ false
+  pub edition : mpVersion k vs ≡ false
+  pub kept : broken (fieldsOf k) vs ≡ false
+  pub over : mpOver k vs ≡ false
+  pub full : missing (fieldsOf k) vs ≡ false
+  pub apart : clash (excluded k) ns ≡ false
+  pub half : mpHalf k vs ≡ false
+
+pub own-clear : (k : Kind) (i : ℕ) (l : List Attr) → own k i l ≡ [] → Clear k (names l) (slotsOf (fieldsOf k) l)
+own-clear k i l e =
+    let (a, e₁) = fault-nil _ 5 i _ e in
+    let (b, e₂) = fault-nil _ 6 i _ e₁ in
+    let (c, e₃) = fault-nil _ 7 i _ e₂ in
+    let (c₁, c₂) = neither _ _ c in
+    let (d, d₃) = neither _ _ (fault-off _ 8 i e₃) in
+    let (d₁, d₂) = neither _ _ d in
+    record { known = a; edition = b; kept = c₁; over = c₂; full = d₁; apart = d₂; half = d₃ }
+
 pub record OwnFine (k : Kind) (vs : Slots) : Type 0 where
   pub good : goodElement k vs ≡ true
   pub version : mpVersion k vs ≡ false
@@ -117,12 +137,6 @@ pub own-good : (k : Kind) (i : ℕ) (l : List Attr) → own k i l ≡ [] → Own
 unfolding goodElement
 own-good k i l e =
     let fs : List Field = fieldsOf k in
-    let vs : Slots = slotsOf fs l in
-    let (a, e₁) = fault-nil (not (every (λ n. elem n (lettersOf fs)) (names l)) || twice (names l)) 5 i (fault (mpVersion k vs) 6 i ++ (fault (broken fs vs || mpOver k vs) 7 i ++ fault (missing fs vs || clash (excluded k) (names l) || mpHalf k vs) 8 i)) e in
-    let (b, e₂) = fault-nil (mpVersion k vs) 6 i (fault (broken fs vs || mpOver k vs) 7 i ++ fault (missing fs vs || clash (excluded k) (names l) || mpHalf k vs) 8 i) e₁ in
-    let (c, e₃) = fault-nil (broken fs vs || mpOver k vs) 7 i (fault (missing fs vs || clash (excluded k) (names l) || mpHalf k vs) 8 i) e₂ in
-    let d = fault-off (missing fs vs || clash (excluded k) (names l) || mpHalf k vs) 8 i e₃ in
-    let (m, h) = neither (missing fs vs || clash (excluded k) (names l)) (mpHalf k vs) d in
-    let (m₁, m₂) = neither (missing fs vs) (clash (excluded k) (names l)) m in
-    let n = clash-less (excluded k) (names l) (namesOf fs vs) (λ x. elem-less x fs l) m₂ in
-    record { good = rw (good-read fs l (neither (broken fs vs) (mpOver k vs) c .0), m₁, n); version = b }
+    let C = own-clear k i l e in
+    let n = clash-less (excluded k) (names l) (namesOf fs (slotsOf fs l)) (λ x. elem-less x fs l) (C .apart) in
+    record { good = rw (good-read fs l (C .kept), C .full, n); version = C .edition }

@@ -69,7 +69,7 @@ least-least f (h ∷ hs) g (there (there a)) = least-least (lower f h) hs g (the
 
 -- ---- what a page is refused with
 
-abbrev isSheet : Judged → Bool
+abbrev pub isSheet : Judged → Bool
 isSheet (refused n i) = false
 isSheet (sheet s) = true
 

@@ -9,7 +9,7 @@ use native.Mathlib.Omega.{arith}
 use lib.Dec.{eqb, leb, ltb}
 use lib.ListN.{length, drop}
 use borrow.Author.Tests.{leb-true, ltb-false}
-use Rattle.paper.specs.Lists.{bytes, if, same, isEmpty, every, elem, twice, count, until, number}
+use Rattle.paper.specs.Lists.{bytes, if, isEmpty, every, elem, twice, count, until, number}
 use Rattle.paper.specs.Bytes.{isAllowed, isDecoded}
 use Rattle.paper.specs.Grammar.{Attr, Tag, start, end, placed}
 use Rattle.paper.specs.Machine.{scan, before}
@@ -18,33 +18,9 @@ use Rattle.paper.specs.Rules.{keeps, obeys}
 use Rattle.paper.specs.Plan.{Slots}
 use Rattle.paper.specs.Judging.{Fault, fault, names, found, slotsOf, lettersOf, breaks, broken, missing, clash, mpVersion, mpOver, mpHalf, own, Stack, kindIn, misplaced, enter, next, lacks, here, faults, Item, item, early, items, or, Sheet, sheetOf, refused, sheet, lower, least, verdict, judgeTags, judge}
 use Rattle.paper.proofs.Small.{unequal, no, both, neither}
-use Rattle.paper.proofs.Exact.{exact}
-use Rattle.paper.proofs.Given.{fault-nil, fault-off, append-nil-both}
-use Rattle.paper.proofs.Told.{Root, page-placed}
-
--- ---- where a page is judged to be a sheet
-
--- a sheet comes from tags of one element that have no fault
-pub record Said (s : Sheet) : Type 0 where
-  pub tags : List Tag
-  pub root : Root tags
-  pub clean : faults [] tags ≡ []
-  pub says : sheetOf (items [] tags) ≡ s
-
--- a page that is not refused is what its tags say
-pub judged-said : (w : List ℕ) (s : Sheet) → judge w ≡ sheet s → Said s
-unfolding judge
-judged-said w s e = at (eqb (length w) 0 || ltb 1400 (length w)) (every isAllowed w) (scan before w) refl e
-  where
-    last : (t : List Tag) → Root t → (fs : List Fault) → faults [] t ≡ fs → verdict fs (items [] t) ≡ sheet s → Said s
-    last t r [] q e = record { tags = t; root = r; clean = q; says = cc }
-    last t r (f ∷ fs) q e = unequal (cc)
-
-    at : (b c : Bool) (o : Option (List Tag)) → scan before w ≡ o → if b (refused 2 0) (if c (judgeTags o w) (refused 3 (until isAllowed w))) ≡ sheet s → Said s
-    at true c o q e = unequal (cc)
-    at false false o q e = unequal (cc)
-    at false true none q e = unequal (cc)
-    at false true (some t) q e = last (placed (length w) t) (page-placed (length w) (exact w t .1 q)) (faults [] (placed (length w) t)) refl e
+use Rattle.paper.proofs.Given.{fault-nil, append-nil-both, own-clear}
+use Rattle.paper.proofs.Told.{Root, is-eq, page-placed}
+use Rattle.paper.proofs.ReadSound.{root-mp, judges}
 
 -- ---- its number and its count
 
@@ -111,29 +87,17 @@ unfolding fieldsOf
 mp-numbered i l ys e =
     let fs : List Field = fieldsOf MP in
     let vs : Slots = slotsOf fs l in
-    let ns : List (List ℕ) = names l in
-    let b₅ : Bool = not (every (λ n. elem n (lettersOf fs)) ns) || twice ns in
-    let b₇ : Bool = broken fs vs || mpOver MP vs in
-    let b₈ : Bool = missing fs vs || clash (excluded MP) ns || mpHalf MP vs in
-    let (x₅, e₆) = fault-nil b₅ 5 i (fault (mpVersion MP vs) 6 i ++ (fault b₇ 7 i ++ fault b₈ 8 i)) e in
-    let (x₆, e₇) = fault-nil (mpVersion MP vs) 6 i (fault b₇ 7 i ++ fault b₈ 8 i) e₆ in
-    let (x₇, e₈) = fault-nil b₇ 7 i (fault b₈ 8 i) e₇ in
-    let (whole, over) = neither (broken fs vs) (mpOver MP vs) x₇ in
-    let (x₈, half) = neither (missing fs vs || clash (excluded MP) ns) (mpHalf MP vs) (fault-off b₈ 8 i e₈) in
+    let C = own-clear MP i l e in
     let a : List ℕ = found l (bytes "a") in
     let z : List ℕ = found l (bytes "z") in
-    let (y₅, y₆) = neither (breaks (aOrZ (bytes "a")) a) (breaks (aOrZ (bytes "z")) z || false) (broken-rest 4 fs vs whole) in
-    let w = within a z y₅ (neither (breaks (aOrZ (bytes "z")) z) false y₆ .0) over half in
+    let (y₅, y₆) = neither (breaks (aOrZ (bytes "a")) a) (breaks (aOrZ (bytes "z")) z || false) (broken-rest 4 fs vs (C .kept)) in
+    let w = within a z y₅ (neither (breaks (aOrZ (bytes "z")) z) false y₆ .0) (C .over) (C .half) in
     record { least = w .0; most = w .1; nine = w .2 }
 
 -- a page's number lies within its count
 pub numbered : (w : List ℕ) (s : Sheet) → judge w ≡ sheet s → Numbered s
-numbered w s e = let S = judged-said w s e in subst Numbered (S .says) (at (S .tags) (S .root) (S .clean))
+numbered w s e = let J = judges w s e in subst Numbered (J .told) (at (placed (length w) (J .tags)) (page-placed (length w) (J .taken)) (J .clean))
   where
-    root-mp : (n : List ℕ) (b : Bool) → is (if b MP unknown) unknown ≡ false → if b MP unknown ≡ MP
-    root-mp n true e = refl
-    root-mp n false e = no e
-
     at : (t : List Tag) → Root t → faults [] t ≡ [] → Numbered (sheetOf (items [] t))
     at [] r f = absurd r
     at (end ∷ t) r f = absurd r
@@ -141,7 +105,7 @@ numbered w s e = let S = judged-said w s e in subst Numbered (S .says) (at (S .t
         let k : Kind = kindIn [] n in
         let (a, b) = append-nil-both (here [] (start i n l)) (faults (enter [] k i (slotsOf (fieldsOf k) l)) t) f in
         let (c, d) = fault-nil (is k unknown || false) 5 i (own k i l) a in
-        let q : k ≡ MP = root-mp n (same n (bytes "MP")) (neither (is k unknown) false c .0) in
+        let q : k ≡ MP = is-eq k MP (root-mp n (neither (is k unknown) false c .0)) in
         subst (λ (j : Kind). Numbered (sheetOf ((if (early j) (item j (slotsOf (fieldsOf j) l) [] ∷ []) []) ++ items (enter [] j i (slotsOf (fieldsOf j) l)) t))) (sym q)
         (mp-numbered i l (items (enter [] MP i (slotsOf (fieldsOf MP) l)) t) (ap (λ (j : Kind). own j i l) (sym q) ∙ d))
 

@@ -7,7 +7,7 @@ use Prim.Native.Nat.{ℕ, zero, suc, _+_, _/_, _%_, _≤_}
 use native.Mathlib.Omega.{arith}
 use lib.Dec.{eqb, leb, ltb}
 use lib.ListN.{length, drop}
-use borrow.Author.Tests.{leb-true, le-leb, ltb-false}
+use borrow.Author.Tests.{eqb-false, leb-true, le-leb, ltb-false}
 use Rattle.paper.specs.Lists.{bytes, if, same, every, isEmpty, number, count, until}
 use Rattle.paper.specs.Bytes.{isDigit, isDecoded, isAllowed}
 use Rattle.paper.proofs.Small.{no, both, neither, and-intro, no-not}
@@ -15,7 +15,9 @@ use Rattle.paper.specs.Grammar.{Attr, Tag, start, end, Page, placed}
 use Rattle.paper.specs.Machine.{scan, before}
 use Rattle.paper.specs.Values.{cut}
 use Rattle.paper.proofs.Exact.{exact}
-use Rattle.paper.specs.Fields.{Kind, unknown, MP, P, A, O, S, M, W, R, X, is, Field, field, digits, pzn, hexes, language, version, pageNo, fieldsOf, excluded, named}
+use Rattle.paper.proofs.Least.{isSheet}
+use Rattle.paper.proofs.Sheets.{aField, zField}
+use Rattle.paper.specs.Fields.{Kind, unknown, MP, P, A, O, S, M, W, R, X, is, Field, field, digits, pzn, hexes, language, version, fieldsOf, excluded, named}
 use Rattle.paper.specs.Rules.{padded, checks, isPackage, keeps, obeys, isZero, settle}
 use Rattle.paper.specs.Plan.{Slots, slot, Row, Head, Plan, namesOf, blank}
 use Rattle.paper.specs.Judging.{Fault, faults, items, Item, item, here, early, enter, frame, slotsOf, found, kindIn, sheetOf, headOf, rowsOf, rowOf, or, allEmpty, part, missing, clash, Sheet, Judged, refused, sheet, verdict, judgeTags, judge}
@@ -279,17 +281,11 @@ mp-head : (l : List Attr) (ys : List Item) → goodElement MP (slotsOf (fieldsOf
     → soundHead (headOf (slotsOf (fieldsOf MP) l) (item MP (slotsOf (fieldsOf MP) l) [] ∷ ys)) ≡ true
 unfolding fieldsOf
 mp-head l ys g x y z =
-    head-good (settle vF (found l (bytes "v"))) (settle pF (found l (bytes "p"))) (settle uF (found l (bytes "U"))) (settle lF (found l (bytes "l"))) (settle aF (found l (bytes "a"))) (settle eF (found l (bytes "z")))
+    head-good (settle vF (found l (bytes "v"))) (settle pF (found l (bytes "p"))) (settle uF (found l (bytes "U"))) (settle lF (found l (bytes "l"))) (settle aField (found l (bytes "a"))) (settle zField (found l (bytes "z")))
     (part P ys) (part A ys) (part O ys) g x y z
   where
     vF : Field
     vF = field MP (bytes "v") version 3 3 0 true
-
-    aF : Field
-    aF = field MP (bytes "a") pageNo 1 1 0 false
-
-    eF : Field
-    eF = field MP (bytes "z") pageNo 1 1 0 false
 
 mp-sheet : (i : ℕ) (l : List Attr) (t : List Tag) → goodElement MP (slotsOf (fieldsOf MP) l) ≡ true → Bal t 1 → faults (frame MP i (slotsOf (fieldsOf MP) l) ∷ []) t ≡ []
     → SheetOk (sheetOf (item MP (slotsOf (fieldsOf MP) l) [] ∷ items (frame MP i (slotsOf (fieldsOf MP) l) ∷ []) t))
@@ -313,7 +309,8 @@ root-sheet W i l t e g b f = no (sym e)
 root-sheet R i l t e g b f = no (sym e)
 root-sheet X i l t e g b f = no (sym e)
 
-root-mp : (n : List ℕ) → is (named n (MP ∷ [])) unknown ≡ false → is (named n (MP ∷ [])) MP ≡ true
+-- an outermost element that is known is an MP
+pub root-mp : (n : List ℕ) → is (named n (MP ∷ [])) unknown ≡ false → is (named n (MP ∷ [])) MP ≡ true
 root-mp n e = at (same n (bytes "MP")) e
   where
     at : (b : Bool) → is (if b MP unknown) unknown ≡ false → is (if b MP unknown) MP ≡ true
@@ -330,20 +327,17 @@ tags-sheet (start i n l ∷ t) r f =
     let S = started [] i n l a in
     root-sheet k i l t (root-mp n (S .known)) (S .fine .good) r b
 
-abbrev isSheet : Judged → Bool
-isSheet (refused n i) = false
-isSheet (sheet s) = true
-
 abbrev sheetIn : Sheet → Judged → Sheet
 sheetIn d (refused n i) = d
 sheetIn d (sheet s) = s
 
--- what it takes that a page is a sheet: it is well-formed, its tags have no faults and say the sheet, and it is not too long
+-- what it takes that a page is a sheet: it is well-formed, its tags have no faults and say the sheet, and it is neither empty nor too long
 pub record Judges (w : List ℕ) (s : Sheet) : Type 0 where
   pub tags : List Tag
   pub taken : Page w tags
   pub clean : faults [] (placed (length w) tags) ≡ []
   pub told : sheetOf (items [] (placed (length w) tags)) ≡ s
+  pub some-bytes : 1 ≤ length w
   pub short : length w ≤ 1400
 
 -- A page that is judged to a sheet says it, by tags without faults.
@@ -351,11 +345,14 @@ pub judges : (w : List ℕ) (s : Sheet) → judge w ≡ sheet s → Judges w s
 unfolding judge
 judges w s e = at (eqb (length w) 0 || ltb 1400 (length w)) refl (every isAllowed w) (scan before w) refl e
   where
-    fits : (eqb (length w) 0 || ltb 1400 (length w)) ≡ false → length w ≤ 1400
-    fits q = ltb-false 1400 (length w) (neither (eqb (length w) 0) (ltb 1400 (length w)) q .1)
+    fits : (eqb (length w) 0 || ltb 1400 (length w)) ≡ false → (1 ≤ length w) × (length w ≤ 1400)
+    fits q =
+        let (x, y) = neither (eqb (length w) 0) (ltb 1400 (length w)) q in
+        let z = eqb-false (length w) 0 x in
+        (omega arith, ltb-false 1400 (length w) y)
 
-    last : (t : List Tag) → Page w t → length w ≤ 1400 → (fs : List Fault) → faults [] (placed (length w) t) ≡ fs → verdict fs (items [] (placed (length w) t)) ≡ sheet s → Judges w s
-    last t p h [] q e = record { tags = t; taken = p; clean = q; told = ap (sheetIn s) e; short = h }
+    last : (t : List Tag) → Page w t → (1 ≤ length w) × (length w ≤ 1400) → (fs : List Fault) → faults [] (placed (length w) t) ≡ fs → verdict fs (items [] (placed (length w) t)) ≡ sheet s → Judges w s
+    last t p h [] q e = record { tags = t; taken = p; clean = q; told = ap (sheetIn s) e; some-bytes = h .0; short = h .1 }
     last t p h (f ∷ fs) q e = no (sym (ap isSheet e))
 
     at : (b : Bool) → (eqb (length w) 0 || ltb 1400 (length w)) ≡ b → (c : Bool) (o : Option (List Tag)) → scan before w ≡ o → if b (refused 2 0) (if c (judgeTags o w) (refused 3 (until isAllowed w))) ≡ sheet s → Judges w s

@@ -12,13 +12,14 @@ use borrow.Author.Tests.{le-leb, leb-true}
 use Rattle.paper.specs.Lists.{concat, if, every}
 use Rattle.paper.proofs.Small.{no, both}
 use Rattle.paper.specs.Plan.{Row, Head, Plan}
-use Rattle.paper.specs.Reading.{Answer, refusal, plan, sheets, judgeAll, read}
+use Rattle.paper.specs.Reading.{plan, sheets, judgeAll, read}
 use Rattle.paper.specs.Writing.{Written, tooMany, unsound, tooLong, written, sound, soundHead, soundRow, page, pages, heading, place13}
 use Rattle.paper.proofs.BySize.{rowSize, base, greedy, laySized, none-cut, sized}
 use Rattle.paper.proofs.Sheets.{SoundHead, head-sound, page-judged}
 use Rattle.paper.proofs.Rows.{AllSound, all-sound}
 use Rattle.paper.proofs.Sizes.{page-size, page-base}
 use Rattle.paper.proofs.Join.{theSheets, joins}
+use Rattle.paper.proofs.AnyOrder.{planOf}
 use Rattle.paper.proofs.AnyCut as C
 
 -- each page is short enough
@@ -139,10 +140,6 @@ round-trip p f e =
     ∙ ap (λ (rs : List Row). plan (record { head = p .head; rows = rs })) (G .whole)
 
 -- 2. two plans have the same sized pages exactly if they are the same; pages written afresh from what sized pages say are those pages
-
-abbrev planOf : Plan → Answer → Plan
-planOf d (refusal n k i) = d
-planOf d (plan p) = p
 
 pub same-plan : (p q : Plan) (f : List (List ℕ)) → sized p ≡ written f → sized q ≡ written f → p ≡ q
 same-plan p q f a b = ap (planOf p) (sym (round-trip p f a) ∙ round-trip q f b)

@@ -18,6 +18,7 @@ use Rattle.paper.specs.Judging.{Frame, Stack, misplaced, howMany, Item, 
 use Rattle.paper.specs.Writing.{goodSlot, goodSlots, goodElement, opening, wsText, bodyText, rowsText, heading, rowSlots, soundRow, noneOf, needs, decimal, digitsOf}
 use Rattle.paper.specs.Writing as Wr
 use Rattle.paper.proofs.Element.{MpFine, name-of, good-slots}
+use Rattle.paper.proofs.Told.{nothing}
 use Rattle.paper.proofs.Fine.{Fine, Elem, fine-bare, fine-open, fine-close}
 
 -- ---- what a sound row is, by its kind
@@ -44,9 +45,6 @@ view-rec n vs (w ∷ ws) b g = let (c, d) = both (eqb n 0) false b in no (sym d)
 view-free : (n : ℕ) (vs : Slots) (ws : List Slots) → (eqb n 0 && noneOf ws) ≡ true → goodElement X vs ≡ true → View (row X n vs ws)
 view-free n vs [] b g = let (c, d) = both (eqb n 0) true b in rw (eqb-true n 0 c) (free vs g)
 view-free n vs (w ∷ ws) b g = let (c, d) = both (eqb n 0) false b in no (sym d)
-
-abbrev nothing : Slots → List Slots → Bool
-nothing vs ws = noneOf ws && (isEmpty (slot (bytes "p") (fieldsOf M) vs) && isEmpty (slot (bytes "a") (fieldsOf M) vs))
 
 view-at : (k : Kind) (n : ℕ) (vs : Slots) (ws : List Slots) → needs k (row k n vs ws) ≡ true → goodElement k (rowSlots (row k n vs ws)) ≡ true → View (row k n vs ws)
 view-at unknown n vs ws e g = no (sym e)

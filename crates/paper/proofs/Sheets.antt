@@ -23,10 +23,10 @@ use Rattle.paper.proofs.Rows.{AllSound, mpframe, Present, fine-rows, ro
 
 -- ---- MP
 
-abbrev aField : Field
+abbrev pub aField : Field
 aField = field MP (bytes "a") pageNo 1 1 0 false
 
-abbrev zField : Field
+abbrev pub zField : Field
 zField = field MP (bytes "z") pageNo 1 1 0 false
 
 or-true : (a b : Bool) → a ≡ false → a || b ≡ true → b ≡ true
@@ -195,7 +195,8 @@ judge-fine : (w : List ℕ) (xs : List Item) → FinePage w xs → 1 ≤ length 
 unfolding judge
 judge-fine w xs F h l = rw (ne-eqb (length w) 0 (omega arith), le-ltb 1400 (length w) l, F .allowed, taken-page (F .taken), F .clean, F .told)
 
-not-empty : (h : Head) (rs : List Row) (a z : ℕ) → 1 ≤ length (page h rs a z)
+-- no page is empty
+pub not-empty : (h : Head) (rs : List Row) (a z : ℕ) → 1 ≤ length (page h rs a z)
 unfolding page
 not-empty h rs a z = omega arith
 

@@ -80,7 +80,7 @@ f-quote [] h double T n x = refl
 f-quote [] h single T n x = refl
 f-quote (c ∷ v) h q T n x = rw (h .0, scan) (f-quote v (h .1) q T n x)
 
-abbrev grown : Half → List ℕ → Half
+abbrev pub grown : Half → List ℕ → Half
 grown H s = record { top = H .top; name = H .name; quote = H .quote; raw = H .raw ++ s }
 
 grow : (H : Half) (c : ℕ) (s : List ℕ) → grown (more H c) s ≡ grown H (c ∷ s)
@@ -118,7 +118,7 @@ f-ref (hex (c ∷ s) h) H x =
     ap (scan (ref amp0 H)) assoc ∙ start ∙ f-hex s (h .1) (more (more (more H 35) 120) c) x
     ∙ rw (append-assoc ((H .raw ++ 35 ∷ []) ++ 120 ∷ []) (c ∷ []) (s ++ 59 ∷ []), append-assoc (H .raw ++ 35 ∷ []) (120 ∷ []) (c ∷ (s ++ 59 ∷ [])), append-assoc (H .raw) (35 ∷ []) (120 ∷ c ∷ (s ++ 59 ∷ [])))
 
-abbrev ended : Open → List ℕ → List ℕ → Open
+abbrev pub ended : Open → List ℕ → List ℕ → Open
 ended T n r = record { from = T .from; tag = T .tag; ats = T .ats ++ record { name = n; raw = r } ∷ []; out = T .out }
 
 f-raw : {q : ℕ} {r : List ℕ} → Quote q → Raw q r → (T : Open) (n v x : List ℕ) → scan (val (half T n q v)) (r ++ q ∷ x) ≡ scan (gap false (ended T n (v ++ r))) x
@@ -132,7 +132,7 @@ f-raw single (ref s {r = r} a p) T n v x =
     ap (λ (y : List ℕ). scan (ref amp0 (half T n 39 (v ++ 38 ∷ []))) y) (append-assoc s r (39 ∷ x)) ∙ f-ref a (half T n 39 (v ++ 38 ∷ [])) (r ++ 39 ∷ x)
     ∙ f-raw single p T n ((v ++ 38 ∷ []) ++ s) x ∙ rw (append-assoc (v ++ 38 ∷ []) s r, append-assoc v (38 ∷ []) (s ++ r))
 
-abbrev opened : ℕ → List ℕ → List Attr → List (List ℕ) → Open
+abbrev pub opened : ℕ → List ℕ → List Attr → List (List ℕ) → Open
 opened i n l ns = record { from = i; tag = n; ats = l; out = ns }
 
 letter-gap : (T : Open) (c : ℕ) → isLetter c ≡ true → gapStep true T c ≡ go (name T (c ∷ []))

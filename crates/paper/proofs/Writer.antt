@@ -19,6 +19,7 @@ use Rattle.paper.proofs.Small.{no, both}
 use Rattle.paper.proofs.AnyCut as C
 use Rattle.paper.proofs.BySize.{rowSize, base, sized}
 use Rattle.paper.proofs.Rows.{all-sound}
+use Rattle.paper.proofs.Sheets.{not-empty}
 use Rattle.paper.proofs.RoundTrip as T
 use Rattle.paper.proofs.Fewest as F
 use Rattle.paper.proofs.Writable as E
@@ -78,13 +79,9 @@ abbrev pub PageSizes : List (List ℕ) → Type 0
 PageSizes [] = Unit {0}
 PageSizes (w ∷ f) = (1 ≤ length w) × (length w ≤ 1400) × PageSizes f
 
-page-some : (h : Head) (q : List Row) (a z : ℕ) → 1 ≤ length (page h q a z)
-unfolding page
-page-some h q a z = omega arith
-
 cut-sizes : (h : Head) (z a : ℕ) (qs : List (List Row)) → Fits h z a qs → PageSizes (pages h z a qs)
 cut-sizes h z a [] f = tt
-cut-sizes h z a (q ∷ qs) f = (page-some h q a z, f .0, cut-sizes h z (suc a) qs (f .1))
+cut-sizes h z a (q ∷ qs) f = (not-empty h q a z, f .0, cut-sizes h z (suc a) qs (f .1))
 
 together : (f : List (List ℕ)) → PageSizes f → length (concat f) ≤ 1400 * length f
 together [] s = omega arith

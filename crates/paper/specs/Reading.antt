@@ -10,7 +10,17 @@ use Rattle.paper.specs.Lists.{if}
 use Rattle.paper.specs.Plan.{Row, Plan, sameHead}
 use Rattle.paper.specs.Judging.{Sheet, Judged, refused, sheet, judge}
 
--- "An answer carries number, page, place"; else the plan
+-- "An answer carries number, page, place."
+pub record Numbers : Type 0 where
+  pub number : ℕ
+  pub page : ℕ
+  pub place : ℕ
+
+-- three numbers of an answer
+abbrev pub numbers : ℕ → ℕ → ℕ → Numbers
+numbers n k i = record { number = n; page = k; place = i }
+
+-- the three numbers of a refusal; else the plan
 pub data Answer : Type 0 where
   refusal : ℕ → ℕ → ℕ → Answer
   plan : Plan → Answer

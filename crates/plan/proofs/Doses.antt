@@ -11,6 +11,7 @@ use lib.ListN.{length, take, drop, getD, length-drop}
 use borrow.Author.Tests.{leb-true, ne-eqb}
 use Rattle.paper.specs.Lists.{if, every, isEmpty}
 use Rattle.paper.specs.Fields.{Kind, M, fieldsOf}
+use Rattle.paper.specs.Judging.{allEmpty}
 use Rattle.paper.specs.Plan.{Dose, scheme, freeText, unstated, timed, doseFrom, doseOf}
 use Rattle.paper.specs.Layout.{Span, shown, shownAll}
 use Rattle.paper.proofs.Small.{both}
@@ -35,6 +36,11 @@ shows t s w = go (s .at) (s .len) w
         let e : eqb (suc n) 0 ≡ false = ne-eqb (suc n) 0 (omega arith) in
         let f : leb (a + suc n) (length t) ≡ true = rw e at w in
         some (drop a t) n (simp length-drop (omega (arith, leb-true (a + suc n) (length t) f))) ∙ sym e
+
+-- and so for spans
+pub all-empty : (t : List ℕ) (ss : List Span) → every (within (length t)) ss ≡ true → allEmpty (shownAll t ss) ≡ every absent ss
+all-empty t [] e = refl
+all-empty t (s ∷ ss) e = let (a, b) = both (within (length t) s) (every (within (length t)) ss) e in rw (shows t s a, all-empty t ss b)
 
 -- document 01's dose, by tests
 by-tests : (m d v h x : List ℕ) → doseFrom m d v h x ≡ if (isEmpty x) (timed m d v h) (freeText x)

@@ -7,11 +7,12 @@ use Prim.Native.Nat.{ℕ, zero, suc, _+_, _-_, _*_, _≤_, _<_}
 use native.Mathlib.Nat.{not-suc-le-zero, le-of-suc-le-suc, add-zero}
 use native.Mathlib.Numerals.{add-one}
 use native.Mathlib.Omega.{arith}
-use lib.Dec.{ltb}
+use lib.Dec.{eqb, ltb}
 use lib.ListN.{length, take, drop, getD, length-append, List·getD-append, List·getD-map}
 use lib.Seq.{getD-append-add, getD-drop, ext-getD}
 use borrow.Author.Tests.{ltb-true, ltb-false}
 use Rattle.paper.specs.Lists.{if}
+use Rattle.paper.specs.Fields.{unknown, S, M, R, X}
 use Rattle.paper.specs.Layout as P
 use Rattle.plan.specs.declared.Span.{Span}
 use Rattle.plan.specs.declared.Dose.{Dose}
@@ -163,6 +164,17 @@ kind-kept Medication = refl
 kind-kept Recipe = refl
 kind-kept Note = refl
 kind-kept Unknown = refl
+
+kind-told : (a b c d : Bool) → paperKind (codeKind (if a S (if b M (if c R (if d X unknown))))) ≡ if a S (if b M (if c R (if d X unknown)))
+kind-told true b c d = refl
+kind-told false true c d = refl
+kind-told false false true d = refl
+kind-told false false false true = refl
+kind-told false false false false = refl
+
+-- the kind that a number shows is told by the code's
+pub kind-is : (n : ℕ) → kindShown n ≡ paperKind (codeKind (kindShown n))
+kind-is n = sym (kind-told (eqb n 1) (eqb n 2) (eqb n 3) (eqb n 4))
 
 -- a row's record has 48 numbers
 pub record-of-size : (r : Row) → length (recordOf r) ≡ 48

@@ -22,6 +22,7 @@ use Rattle.paper.proofs.Element.{good-slots, good-whole}
 use Rattle.paper.proofs.Rows.{row, View, head, med, rec, free, AllSound, all-sound}
 use Rattle.paper.proofs.Sheets.{SoundHead, head-sound}
 use Rattle.plan.specs.Numbers.{recordAt, kindShown, ownSpans, twos, before, toLast, rowWith, showRow, showRows, paperSpan, headWith, showHead, showPlan, absent, within, inText, headInText, knownKind, hasSpans, spareAbsent, fitRecord, fitRows, kindNumber, padded, recordWith, rowNumbers, rowsNumbers, codeSpan, planNumbers, planRows}
+use Rattle.plan.proofs.Stores.{records-behind}
 use Rattle.plan.proofs.Spans.{none, record-size, spans-back, front-spans, padded-long, padded-front, padded-behind}
 
 -- ---- values that lie without gaps
@@ -310,8 +311,7 @@ rows-from : (t : List ℕ) (n : ℕ) (rows : List ℕ) (i : ℕ) → i < n → d
 rows-from t zero rows i h = absurd (not-suc-le-zero h)
 rows-from t (suc n) rows zero h = refl
 rows-from t (suc n) rows (suc i) h =
-    let e : 48 + i * 48 ≡ suc i * 48 = omega arith in
-    rows-from t n (drop 48 rows) i (le-of-suc-le-suc h) ∙ ap (λ (l : List ℕ). showRow t (take 48 l) ∷ drop (suc i) (showRows t n (drop 48 rows))) (drop-drop (i * 48) 48 rows ∙ ap (λ (k : ℕ). drop k rows) e)
+    rows-from t n (drop 48 rows) i (le-of-suc-le-suc h) ∙ ap (λ (l : List ℕ). showRow t (take 48 l) ∷ drop (suc i) (showRows t n (drop 48 rows))) (records-behind i rows)
 
 -- as many rows are shown as there are records
 pub rows-shown : (t : List ℕ) (n : ℕ) (rows : List ℕ) → length (showRows t n rows) ≡ n

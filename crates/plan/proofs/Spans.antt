@@ -1,14 +1,20 @@
--- Spans: laws on the spans of a record: those that it was made of are found in it, and a record is filled span by span.
+-- Spans: laws on the spans of a record: those that it was made of are found in it, and a record is filled span by span, as a head's numbers are; and on parts of spans.
 -- Assumes nothing.
 use mathlib.Core.Path.{_≡_, refl, sym, ap, _∙_}
+use mathlib.Core.Bool.{Bool, true}
 use mathlib.Core.List.{List, [], _∷_, _++_}
 use Prim.Native.Nat.{ℕ, zero, suc, _+_, _*_, _≤_, _<_}
 use native.Mathlib.Nat.{le-of-suc-le-suc, not-suc-le-zero}
+use native.Mathlib.Numerals.{add-one}
 use native.Mathlib.Omega.{arith}
 use lib.ListN.{length, take, drop, getD, set}
-use lib.Seq.{getD-take}
-use Rattle.paper.specs.Layout.{Span}
-use Rattle.plan.specs.Numbers.{spanIn, spansIn, spansOf, flat, padded, recordWith, codeSpan}
+use lib.Seq.{take-all, getD-take}
+use Rattle.paper.specs.Lists.{every}
+use Rattle.paper.specs.Plan.{Slots}
+use Rattle.paper.specs.Layout.{Span, shown, shownAll}
+use Rattle.paper.proofs.Small.{both}
+use Rattle.plan.specs.declared.Span as Code
+use Rattle.plan.specs.Numbers.{spanIn, spansIn, spansOf, flat, headNumbers, padded, recordWith, codeSpan}
 use Rattle.plan.specs.Records.{withSpan}
 
 -- an absent value's span
@@ -23,6 +29,11 @@ module _ {A : Type 0} (d : A) where
   padded-long zero l = refl
   padded-long (suc k) [] = ap suc (padded-long k [])
   padded-long (suc k) (x ∷ l) = ap suc (padded-long k l)
+
+  -- a list that lacks none stays
+  pub padded-whole : (l : List A) → padded (length l) d l ≡ l
+  padded-whole [] = refl
+  padded-whole (x ∷ l) = ap (λ (r : List A). x ∷ r) (padded-whole l)
 
   -- what it has, it has in the same place
   pub padded-at : (k : ℕ) (l : List A) (i : ℕ) → i < k → getD (padded k d l) i d ≡ getD l i d
@@ -51,6 +62,11 @@ module _ {A : Type 0} (d : A) where
   padded-behind (x ∷ a) b m = let e : suc (length a) + m ≡ suc (length a + m) = omega arith in ap (λ (n : ℕ). drop (suc (length a)) (padded n d (x ∷ (a ++ b)))) e ∙ padded-behind a b m
 
 -- ---- the numbers of spans
+
+-- two numbers to a span
+pub flat-long : (ss : List Span) → length (flat ss) ≡ 2 * length ss
+flat-long [] = refl
+flat-long (s ∷ ss) = omega (arith, flat-long ss)
 
 flat-at : (ss : List Span) (j : ℕ) → getD (flat ss) (2 * j) 0 ≡ getD ss j none .at
 flat-at [] j = refl
@@ -120,6 +136,27 @@ next-span k n ss j h g =
     ∙ ap (λ (m : ℕ). set (set (k ∷ n ∷ l) (suc (suc (2 * j))) (s .at)) m (s .len)) b
     ∙ ap (λ (xs : List ℕ). k ∷ n ∷ xs) (filled 46 ss j h (omega arith))
 
+-- ---- the numbers of a head span by span
+
+-- with the first j spans
+abbrev pub headUpTo : List Span → ℕ → List ℕ
+headUpTo ss j = 0 ∷ 0 ∷ padded 54 0 (flat (take j ss))
+
+-- the next span stored behind those before it
+pub head-turn : (ss : List Span) (j : ℕ) {s : Code.Span} {numbers : List ℕ} → j < length ss → j < 27 → s ≡ codeSpan (getD ss j none) → numbers ≡ headUpTo ss j
+    → set (set numbers (2 * j + 2) (s .at)) (2 * j + 3) (s .len) ≡ headUpTo ss (j + 1)
+head-turn ss j h g e f =
+    let a : 2 * j + 2 ≡ suc (suc (2 * j)) = omega arith in
+    let b : 2 * j + 3 ≡ suc (suc (suc (2 * j))) = omega arith in
+    rw (e, f, a, b, add-one j) (ap (λ (xs : List ℕ). 0 ∷ 0 ∷ xs) (filled 54 ss j h (omega arith)))
+
+-- all of them
+pub head-done : (ss : List Span) (j : ℕ) → length ss ≡ 27 → 27 ≤ j → headUpTo ss j ≡ headNumbers ss
+head-done ss j h k =
+    let e : 54 ≡ length (flat ss) = omega (arith, flat-long ss) in
+    ap (λ (l : List Span). 0 ∷ 0 ∷ padded 54 0 (flat l)) (take-all j ss (omega arith))
+    ∙ ap (λ (xs : List ℕ). 0 ∷ 0 ∷ xs) (ap (λ (n : ℕ). padded n 0 (flat ss)) e ∙ padded-whole 0 (flat ss))
+
 -- ---- numbers 40 and above have no say in the spans
 
 spans-front : (m j : ℕ) (l : List ℕ) → j + m ≤ 19 → spansIn m j (take 40 l) ≡ spansIn m j l
@@ -133,3 +170,41 @@ spans-front (suc m) j l h =
 -- a record's spans are those of its first 40 numbers
 pub front-spans : (l : List ℕ) → spansOf (take 40 l) ≡ spansOf l
 front-spans l = spans-front 19 0 l (omega arith)
+
+-- ---- parts of spans
+
+-- what n spans behind the first i show
+pub shown-part : (t : List ℕ) (ss : List Span) (i n : ℕ) → take n (drop i (shownAll t ss)) ≡ shownAll t (take n (drop i ss))
+shown-part t ss zero zero = refl
+shown-part t [] zero (suc n) = refl
+shown-part t (s ∷ ss) zero (suc n) = ap (λ (l : Slots). shown t s ∷ l) (shown-part t ss zero n)
+shown-part t [] (suc i) zero = refl
+shown-part t [] (suc i) (suc n) = refl
+shown-part t (s ∷ ss) (suc i) n = shown-part t ss i n
+
+-- what holds of all spans holds of n of them behind the first i
+pub every-part : (p : Span → Bool) (ss : List Span) (i n : ℕ) → every p ss ≡ true → every p (take n (drop i ss)) ≡ true
+every-part p ss zero zero e = refl
+every-part p [] zero (suc n) e = refl
+every-part p (s ∷ ss) zero (suc n) e = let (a, b) = both (p s) (every p ss) e in rw (a, every-part p ss zero n b)
+every-part p [] (suc i) zero e = refl
+every-part p [] (suc i) (suc n) e = refl
+every-part p (s ∷ ss) (suc i) n e = every-part p ss i n (both (p s) (every p ss) e .1)
+
+module _ (l : List ℕ) where
+  first-spans : (m n j : ℕ) → n ≤ m → take n (spansIn m j l) ≡ spansIn n j l
+  unfolding spansIn
+  first-spans m zero j h = refl
+  first-spans zero (suc n) j h = absurd (omega arith)
+  first-spans (suc m) (suc n) j h = ap (λ (r : List Span). spanIn l j ∷ r) (first-spans m n (suc j) (omega arith))
+
+  -- n spans of a record behind the first i of m
+  pub spans-part : (m i n j : ℕ) → i + n ≤ m → take n (drop i (spansIn m j l)) ≡ spansIn n (j + i) l
+  unfolding spansIn
+  spans-part m zero n j h = let f : j + 0 ≡ j = omega arith in rw f (first-spans m n j (omega arith))
+  spans-part zero (suc i) n j h = absurd (omega arith)
+  spans-part (suc m) (suc i) n j h = let f : suc j + i ≡ j + suc i = omega arith in rw (← f) (spans-part m i n (suc j) (omega arith))
+
+  -- the values of n spans of a record behind the first i of m
+  pub part-shown : (t : List ℕ) (m i n j : ℕ) → i + n ≤ m → take n (drop i (shownAll t (spansIn m j l))) ≡ shownAll t (spansIn n (j + i) l)
+  part-shown t m i n j h = shown-part t (spansIn m j l) i n ∙ ap (shownAll t) (spans-part m i n j h)

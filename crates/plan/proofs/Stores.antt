@@ -92,6 +92,10 @@ stored-in (y ∷ ys) (suc at) n k x h l =
 
 -- ---- the record of a row
 
+-- the numbers behind i records of those behind the first record
+pub records-behind : (i : ℕ) (rows : List ℕ) → drop (i * 48) (drop 48 rows) ≡ drop (suc i * 48) rows
+records-behind i rows = let e : 48 + i * 48 ≡ suc i * 48 = omega arith in drop-drop (i * 48) 48 rows ∙ ap (λ (k : ℕ). drop k rows) e
+
 -- a number of record i is a number of the rows
 pub record-number : (rows : List ℕ) (i k : ℕ) → k < 48 → getD (recordAt rows i) k 0 ≡ getD rows (i * 48 + k) 0
 record-number rows i k h = getD-take 48 (drop (i * 48) rows) k 0 h ∙ getD-drop (i * 48) rows k 0

@@ -14,7 +14,7 @@
 -- Assumes nothing.
 use mathlib.Core.Bool.{Bool, true, _&&_, _||_}
 use mathlib.Core.List.{List, [], _∷_, _++_, map}
-use Prim.Native.Nat.{ℕ, zero, suc, _+_, _*_}
+use Prim.Native.Nat.{ℕ, zero, suc, _+_, _*_, _/_}
 use lib.Dec.{eqb, leb}
 use lib.ListN.{length, take, drop, getD}
 use Rattle.paper.specs.Lists.{if, every, concat}
@@ -27,6 +27,10 @@ use Rattle.plan.specs.declared.Span as Code
 use Rattle.plan.specs.declared.Plan.{Plan}
 
 -- ---- records
+
+-- how many rows so many numbers are
+abbrev pub rowsLent : ℕ → ℕ
+rowsLent numbers = numbers / 48
 
 -- record i of the rows, counted from 0
 abbrev pub recordAt : List ℕ → ℕ → List ℕ
@@ -166,6 +170,10 @@ kindNumber W = 0
 abbrev pub flat : List Span → List ℕ
 flat [] = []
 flat (s ∷ ss) = s .at ∷ s .len ∷ flat ss
+
+-- the spans of a head as numbers: span j at number 2 + 2 * j, as in a record, behind two that are 0
+abbrev pub headNumbers : List Span → List ℕ
+headNumbers ss = 0 ∷ 0 ∷ flat ss
 
 module _ {A : Type 0} where
   -- the first k of a list, with d in the place of those that it lacks

@@ -1,9 +1,9 @@
 // A plan as numbers: the head by value, the rows as records of 48 numbers in a lent slice. specs/Numbers.antt says which plan they show.
 ghost use mathlib.Core.Path.{_≡_};
 ghost use Prim.Native.Nat.{_+_, _*_, _≤_, _<_};
-ghost use mathlib.Core.List.{[]};
+ghost use mathlib.Core.List.{[], map};
 ghost use lib.ListN.{length, getD};
-ghost use Rattle.plan.specs.Numbers.{recordAt, kindShown, kindNumber, recordWith};
+ghost use Rattle.plan.specs.Numbers.{recordAt, kindShown, paperSpan, kindNumber, headNumbers, recordWith};
 ghost use Rattle.plan.specs.Records.{paperKind, codeKind, noSpan, codeSpanIn, doseFrom, doseIn, textSpan, textsIn, rowIn, doseSpans, recordOf, laid, withRecord, withSpan, spanOf, spansWith, emptyPlan};
 
 // A value in the text: its start and its length. It is absent exactly when the length is 0.
@@ -260,6 +260,21 @@ pub fn put_span(rows: &mut [u32], i: usize, j: usize, at: u32, len: u32)
     let to = i * Plan::STRIDE + 2 + 2 * j;
     rows[to] = at;
     rows[to + 1] = len;
+}
+
+// The spans of a head as numbers: span j at number 2 + 2 * j, as in a row's record, behind two that are 0.
+pub fn head_numbers(head: [Span; 27]) -> [u32; 56]
+    ensures { λ r. ⌜ r ≡ headNumbers (map paperSpan head) ⌝ }
+{
+    let mut numbers = [0u32; 56];
+    let mut j = 0;
+    while j < 27 {
+        let s = head[j];
+        numbers[2 * j + 2] = s.at;
+        numbers[2 * j + 3] = s.len;
+        j += 1;
+    }
+    numbers
 }
 
 // The five spans of a dose: morning, midday, evening, night, free text.

@@ -11,9 +11,10 @@ use lib.ListN.{length, take, drop, getD, drop-of-length-le}
 use lib.Seq.{drop-cons}
 use borrow.Author.Tests.{leb-true, leb-false, le-leb, lt-leb}
 use Rattle.paper.specs.Calls.{inside, pagesAt, roomy, rowRoom, textRoom}
-use Rattle.paper.proofs.Small.{no, both}
-use Rattle.paper.proofs.CallLaws.{Inside}
-use Rattle.reader.specs.Lent.{rowsLent}
+use Rattle.paper.proofs.Small.{both}
+use Rattle.paper.proofs.CallLaws.{inside-true}
+use Rattle.fields.proofs.RuleLaws.{and-false}
+use Rattle.plan.specs.Numbers.{rowsLent}
 
 -- ---- one page
 
@@ -33,10 +34,6 @@ unlike b [] [] h = absurd (h refl)
 unlike b [] (n ∷ ns) h = refl
 unlike b (s ∷ ss) [] h = refl
 unlike b (s ∷ ss) (n ∷ ns) h = rw (unlike b ss ns (λ e. h (ap suc e))) (and-false (leb (s + n) (length b)))
-  where
-    and-false : (x : Bool) → (x && false) ≡ false
-    and-false true = refl
-    and-false false = refl
 
 -- the pages from the i-th on
 abbrev pub insideFrom : List ℕ → List ℕ → List ℕ → ℕ → Bool
@@ -76,20 +73,6 @@ module _ (b ss ns : List ℕ) where
 
 -- ---- what a caller may rely on
 
--- as many lengths as starts, and every page ends within the buffer
-pub inside-true : (b ss ns : List ℕ) → inside b ss ns ≡ true → Inside b ss ns
-inside-true b [] [] e = record { alike = refl; ends = λ j h. absurd (omega arith) }
-inside-true b [] (n ∷ ns) e = no (sym e)
-inside-true b (s ∷ ss) [] e = no (sym e)
-inside-true b (s ∷ ss) (n ∷ ns) e =
-    let (x, y) = both (leb (s + n) (length b)) (inside b ss ns) e in
-    let I = inside-true b ss ns y in
-    record { alike = ap suc (I .alike); ends = at (leb-true (s + n) (length b) x) (I .ends) }
-  where
-    at : s + n ≤ length b → ((j : ℕ) → j < length ss → getD ss j 0 + getD ns j 0 ≤ length b) → (j : ℕ) → j < length (s ∷ ss) → getD (s ∷ ss) j 0 + getD (n ∷ ns) j 0 ≤ length b
-    at x y zero h = x
-    at x y (suc j) h = y j (omega arith)
-
 -- a call that is well made
 pub record Fits (b ss ns : List ℕ) : Type 0 where
   pub some : 1 ≤ length ss
@@ -105,12 +88,6 @@ call-fits b ss ns e =
     let (y, z) = both (leb (length ss) 9) (inside b ss ns) e₁ in
     let I = inside-true b ss ns z in
     record { some = leb-true 1 (length ss) x; nine = leb-true (length ss) 9 y; alike = I .alike; ends = I .ends; lie = z }
-
--- as many pages as starts
-pub pages-count : (b ss ns : List ℕ) → inside b ss ns ≡ true → length (pagesAt b ss ns) ≡ length ss
-pages-count b [] ns e = refl
-pages-count b (s ∷ ss) [] e = no (sym e)
-pages-count b (s ∷ ss) (n ∷ ns) e = ap suc (pages-count b ss ns (both (leb (s + n) (length b)) (inside b ss ns) e .1))
 
 -- each page is its part of the buffer
 pub page-at : (b ss ns : List ℕ) (i : ℕ) → i < length ss → i < length ns → getD (pagesAt b ss ns) i [] ≡ take (getD ns i 0) (drop (getD ss i 0) b)

@@ -1,8 +1,7 @@
 -- JoiningLaws: the pages of a call one at a time; heads that are the same; rows of pages laid one page behind the other.
 -- Assumes nothing.
 use mathlib.Core.Path.{_≡_, refl, sym, ap, _∙_, subst}
-use mathlib.Core.Bool.{Bool, true, false, not, _&&_}
-use mathlib.Core.Option.{Option, none, some}
+use mathlib.Core.Bool.{Bool, true, false, _&&_}
 use mathlib.Core.List.{List, [], _∷_, _++_, append-assoc, append-nil}
 use Prim.Native.Nat.{ℕ, zero, suc, _+_, _*_, _-_, _≤_, _<_}
 use native.Mathlib.Nat.{add-zero}
@@ -13,16 +12,16 @@ use lib.ListN.{length, take, drop, getD, set, length-append, drop-of-length-le}
 use lib.Seq.{slice, drop-cons, take-all, take-suc-set}
 use borrow.Author.Tests.{eq-eqb, ne-eqb, eqb-true}
 use Rattle.paper.specs.Lists.{concat, same}
-use Rattle.paper.specs.Grammar.{Attr, Tag}
-use Rattle.paper.specs.Fields.{Kind, P, A, O, Field, fieldsOf}
-use Rattle.paper.specs.Plan.{Slots, Head, Row, Plan, sameHead, blank}
-use Rattle.paper.specs.Judging.{Sheet, slotsOf}
+use Rattle.paper.specs.Grammar.{Tag}
+use Rattle.paper.specs.Plan.{Slots, Head, Row, Plan, sameHead}
+use Rattle.paper.specs.Judging.{Sheet}
 use Rattle.paper.specs.Reading.{other, has, rowsAt, joined}
 use Rattle.paper.specs.Calls.{inside, pagesAt}
 use Rattle.paper.specs.Layout.{headValues, rowValues, rowsValues, textOf}
 use Rattle.paper.proofs.Small.{no, both, same-eq, same-self}
 use Rattle.paper.proofs.AnyOrder.{head-eq}
 use Rattle.paper.proofs.Join.{head-self}
+use Rattle.paper.proofs.CallLaws.{inside-true, pages-count}
 use Rattle.markup.specs.Laid.{laid}
 use Rattle.markup.specs.Walk.{tagsAt}
 use Rattle.markup.proofs.LaidLaws.{Laying, start, next-piece, all-laid}
@@ -30,12 +29,13 @@ use Rattle.plan.specs.Numbers.{rowNumbers, rowsNumbers, headSpans, planNumbers,
 use Rattle.plan.specs.declared.Span as Code
 use Rattle.plan.specs.declared.Plan as Numbers
 use Rattle.plan.specs.Records.{noSpan}
-use Rattle.plan.proofs.Shown.{HeadShape, head-back, concat-append, rows-size, text-parts}
+use Rattle.plan.proofs.Shown.{head-back, concat-append, rows-size, text-parts}
 use Rattle.reader.specs.Pages.{nosOf, placeOf}
-use Rattle.sheet.specs.Content.{attrsOfFirst, slotsFrom, partFrom, headFrom, rowsFrom, contentOf}
+use Rattle.sheet.specs.Content.{headFrom, rowsFrom, contentOf}
 use Rattle.sheet.specs.Laying.{Room, LaysHead, Fills}
+use Rattle.sheet.proofs.HeadLaws.{head-full}
 use Rattle.reader.specs.Joining.{sheetsOf, sheetAt, PageFits, AllFit, Called, sameSpans, firstOther, countSaid, planIn, noPlan}
-use Rattle.reader.proofs.CallFacts.{inside-true, pages-count, page-at}
+use Rattle.reader.proofs.CallFacts.{page-at}
 use Rattle.reader.proofs.PageLaws.{place-rows, place-none}
 
 -- ---- one page of the call
@@ -54,8 +54,8 @@ fits-at (w ∷ ws) zero f h = f .0
 fits-at (w ∷ ws) (suc i) f h = fits-at ws i (f .1) (omega arith)
 
 -- page i of a call, as the code holds it, fits
-pub page-fits : (b ss ns : List ℕ) (i : ℕ) (w : List ℕ) → Called b ss ns → i < length ss → w ≡ getD (pagesAt b ss ns) i [] → PageFits w
-page-fits b ss ns i w C h e = subst PageFits (sym e) (fits-at (pagesAt b ss ns) i (C .fit) (omega (arith, pages-count b ss ns (C .lie))))
+pub page-fits : {b ss ns : List ℕ} {i : ℕ} {w : List ℕ} → Called b ss ns → i < length ss → w ≡ getD (pagesAt b ss ns) i [] → PageFits w
+page-fits {b} {ss} {ns} {i} C h e = subst PageFits (sym e) (fits-at (pagesAt b ss ns) i (C .fit) (omega (arith, pages-count b ss ns (C .lie))))
 
 -- as many sheets as pages
 pub sheets-count : (ws : List (List ℕ)) → length (sheetsOf ws) ≡ length ws
@@ -75,11 +75,6 @@ sheet-at (w ∷ ws) (suc i) d h = sheet-at ws i d (omega arith)
 -- the sheets from page i on
 pub sheets-from : (ws : List (List ℕ)) (i : ℕ) → i < length ws → sheetsOf (drop i ws) ≡ sheetAt ws i ∷ sheetsOf (drop (i + 1) ws)
 sheets-from ws i h = rw (add-one i, drop-cons ws i [] h)
-
--- a test that failed, by its negation
-pub not-false : (b : Bool) → not b ≡ false → b ≡ true
-not-false true e = refl
-not-false false e = no e
 
 -- ---- the first page that is another
 
@@ -174,28 +169,6 @@ head-test k h false f g = at (sameHead k h) refl
     at true e = f (head-eq k h e)
     at false e = refl
 
--- slots are as many as the fields
-slots-long : (fs : List Field) (l : List Attr) → length (slotsOf fs l) ≡ length fs
-slots-long [] l = refl
-slots-long (f ∷ fs) l = ap suc (slots-long fs l)
-
-blank-long : (fs : List Field) → length (blank fs) ≡ length fs
-blank-long [] = refl
-blank-long (f ∷ fs) = ap suc (blank-long fs)
-
-part-long : (k : Kind) (ts : List Tag) → length (partFrom k ts) ≡ length (fieldsOf k)
-unfolding partFrom
-part-long k ts = at (attrsOfFirst k ts)
-  where
-    at : (o : Option (List Attr)) → length (slotsFrom k o) ≡ length (fieldsOf k)
-    at none = blank-long (fieldsOf k)
-    at (some l) = slots-long (fieldsOf k) l
-
--- a page's head has just the fields of P, A and O
-head-shaped : (ts : List Tag) → HeadShape (headFrom ts)
-unfolding headFrom fieldsOf
-head-shaped ts = record { person-long = part-long P ts; author-long = part-long A ts; measures-long = part-long O ts }
-
 -- the plan by value of a head alone
 abbrev headOnly : Head → Plan
 headOnly h = record { head = h; rows = [] }
@@ -206,7 +179,7 @@ laid-shown ts room room′ e patch spans L =
     let h : Head = headFrom ts in
     let p : Numbers.Plan = planNumbers (headOnly h) in
     let q : record { patch = patch; rows = 0; head = spans } ≡ p = made patch (h .patch) spans (headSpans 0 h) (L .patch-is) (L .spans-are) in
-    sym (ap (showHead room′) q ∙ (ap (λ (t : List ℕ). showHead t p) (L .text-is) ∙ head-back (headOnly h) (drop (0 + length (concat (headValues h))) room) (head-shaped ts)))
+    sym (ap (showHead room′) q ∙ (ap (λ (t : List ℕ). showHead t p) (L .text-is) ∙ head-back (headOnly h) (drop (0 + length (concat (headValues h))) room) (head-full ts)))
   where
     made : (a b : ℕ) (s t : List Code.Span) → a ≡ b → s ≡ t → _≡_ {A = Numbers.Plan} (record { patch = a; rows = 0; head = s }) (record { patch = b; rows = 0; head = t })
     made a b s t e f = rw (e, f)
@@ -297,7 +270,7 @@ found-at n ws h = at (has n (sheetsOf ws)) refl
     at false q = absurd (h (place-none n (sheetsOf ws) q .0 ∙ sheets-count ws))
 
 -- where the page of number k stands in a call: it is not there, or page i is that page, and gives the number's rows
-module _ (b ss ns : List ℕ) (C : Called b ss ns) (k i : ℕ) (e : i ≡ placeOf k (sheetsOf (pagesAt b ss ns))) where
+module _ {b ss ns : List ℕ} (C : Called b ss ns) (k : ℕ) {i : ℕ} (e : i ≡ placeOf k (sheetsOf (pagesAt b ss ns))) where
   pub no-page : i ≡ length ss → rowsAt k (sheetsOf (pagesAt b ss ns)) ≡ []
   no-page h = lost k (sheetsOf (pagesAt b ss ns)) (sym e ∙ (h ∙ sym (call-count b ss ns C)))
 
@@ -307,8 +280,8 @@ module _ (b ss ns : List ℕ) (C : Called b ss ns) (k i : ℕ) (e : i ≡ placeO
       let f = found-at k (pagesAt b ss ns) (λ z. h (e ∙ (z ∙ c))) .0 in
       omega (arith, c, e, f)
 
-  pub page-rows : (i ≡ length ss → ⊥) → (w : List ℕ) → w ≡ getD (pagesAt b ss ns) i [] → rowsAt k (sheetsOf (pagesAt b ss ns)) ≡ rowsFrom (tagsAt w 0)
-  page-rows h w q =
+  pub page-rows : (i ≡ length ss → ⊥) → {w : List ℕ} → w ≡ getD (pagesAt b ss ns) i [] → rowsAt k (sheetsOf (pagesAt b ss ns)) ≡ rowsFrom (tagsAt w 0)
+  page-rows h q =
       let c = pages-count b ss ns (C .lie) in
       found-at k (pagesAt b ss ns) (λ z. h (e ∙ (z ∙ c))) .1
       ∙ (ap (λ (j : ℕ). sheetAt (pagesAt b ss ns) j .rows) (sym e) ∙ (rows-said (getD (pagesAt b ss ns) i []) ∙ ap (λ (v : List ℕ). rowsFrom (tagsAt v 0)) (sym q)))

@@ -1,45 +1,36 @@
 -- ReadingLaws: the steps of reading, each against document 01's answer: the call, the pages judged one by one, what pages without faults give their readers,
 -- and the join step by step.
 -- Assumes nothing.
-use mathlib.Core.Path.{_≡_, refl, ap, sym, _∙_, subst}
-use mathlib.Core.Bool.{Bool, true, false, not, _&&_, _||_}
-use mathlib.Core.List.{List, [], _∷_, _++_, append-nil}
+use mathlib.Core.Path.{_≡_, refl, ap, sym, _∙_}
+use mathlib.Core.Bool.{Bool, true, false, _&&_}
+use mathlib.Core.List.{List, [], _∷_}
 use Prim.Native.Nat.{ℕ, zero, suc, _+_, _≤_, _<_}
 use native.Mathlib.Numerals.{add-one}
 use native.Mathlib.Omega.{arith}
 use lib.Dec.{eqb, leb}
 use lib.ListN.{length, drop, drop-of-length-le}
 use borrow.Author.Tests.{le-leb, lt-leb}
-use Rattle.paper.specs.Lists.{bytes, if, every, elem, twice, number, concat}
-use Rattle.paper.specs.Grammar.{Attr, Tag, start, end, placed}
-use Rattle.paper.specs.Fields.{Kind, unknown, M, R, S, X, is, Field, fieldsOf, excluded}
-use Rattle.paper.specs.Plan.{Slots, Row, slot, sameHead}
+use Rattle.paper.specs.Lists.{if}
+use Rattle.paper.specs.Plan.{sameHead}
 use Rattle.paper.specs.Plan as Said
-use Rattle.paper.specs.Judging.{names, lettersOf, fault, slotsOf, broken, missing, clash, mpVersion, mpOver, mpHalf, own, Stack, kindIn, misplaced, next, lacks, here, faults, Item, item, items, allEmpty, tail, rowOf, rowsOf, Sheet, Judged, refused, sheet, judge}
-use Rattle.paper.specs.Reading.{Judgement, stopped, sheets, cons, judgeAll, has, other, again, lowest, joined, first, enough, join, decide, read}
+use Rattle.paper.specs.Judging.{Sheet, Judged, refused, sheet, judge}
+use Rattle.paper.specs.Reading.{numbers, Judgement, stopped, sheets, cons, judgeAll, has, other, again, lowest, joined, first, enough, join, decide, read}
 use Rattle.paper.specs.Reading as Paper
-use Rattle.paper.specs.Layout.{headValues, planValues, textOf}
+use Rattle.paper.specs.Layout.{textOf}
 use Rattle.paper.specs.Collecting.{maskOf}
 use Rattle.paper.specs.Calls.{inside, pagesAt, readAt, roomy, readCall}
-use Rattle.paper.specs.Writing.{sound}
-use Rattle.paper.proofs.Small.{unequal, neither}
-use Rattle.paper.proofs.Exact.{exact}
-use Rattle.paper.proofs.Given.{fault-nil, append-nil-both}
-use Rattle.paper.proofs.Told.{ItemsOk, items-ok, page-placed}
+use Rattle.paper.proofs.Small.{unequal}
 use Rattle.paper.proofs.PageNumbers.{numbered, two-to-eight, size-place}
-use Rattle.paper.proofs.ReadSound.{judge-ok}
-use Rattle.paper.proofs.Rooms.{sheet-weight, text-weight, rooms}
+use Rattle.paper.proofs.CallLaws.{pages-count}
+use Rattle.paper.proofs.ReadSound.{judges}
+use Rattle.paper.proofs.Rooms.{rooms}
 use Rattle.markup.specs.Walk.{tagsAt}
-use Rattle.markup.proofs.Walked.{walked}
-use Rattle.plan.specs.Numbers.{planNumbers, planRows}
+use Rattle.plan.specs.Numbers.{rowsLent, planNumbers, planRows}
 use Rattle.plan.specs.Records.{emptyPlan}
 use Rattle.markup.specs.Laid.{laid}
-use Rattle.sheet.specs.Fold.{strange}
-use Rattle.sheet.specs.Content.{kindNamed, wsFrom, rowsFrom, headFrom, contentOf}
-use Rattle.sheet.specs.Laying.{Sound, Fit}
+use Rattle.sheet.specs.Content.{contentOf}
 use Rattle.sheet.specs.Judged.{verdictOf}
-use Rattle.reader.specs.Answers.{numbersOf, numbers, pageRefusal}
-use Rattle.reader.specs.Lent.{rowsLent}
+use Rattle.reader.specs.Answers.{numbersOf, pageRefusal}
 use Rattle.reader.specs.Pages.{present, absent, numbersIn, firstOf}
 use Rattle.reader.specs.Joining.{sheetsOf, PageFits, AllFit, firstOther, countSaid, planIn, noPlan}
 use Rattle.reader.specs.Promise.{Promised, answered, judgedAs}
@@ -48,107 +39,27 @@ use Rattle.reader.specs.declared.answer.Answer.the-variants.{Plan, PageS
 use Rattle.sheet.specs.declared.judge.Verdict.the-variants.{Refused, Fine}
 use Rattle.reader.specs.declared.reading.Reading.{Reading}
 use Rattle.reader.proofs.AnswerLaws.{page-told}
-use Rattle.reader.proofs.CallFacts.{pages-count, call-fits, room-fits}
-use Rattle.sheet.proofs.FoldContent.{kind-in, rows-is}
+use Rattle.reader.proofs.CallFacts.{call-fits, room-fits}
+use Rattle.reader.proofs.JoiningLaws.{sheets-count}
+use Rattle.sheet.proofs.PageLaws.{page-content, page-fit, page-short}
 use Rattle.reader.proofs.PageLaws as Page
-use Rattle.sheet.proofs.JudgeLaws.{FinePage, fine-content}
 
 -- ---- what a page without faults gives its readers
 
--- no row has more than three W
-abbrev FewW : List Row → Type 0
-FewW [] = Unit {0}
-FewW (r ∷ rs) = (length (r .ws) ≤ 3) × FewW rs
-
-few-append : (rs qs : List Row) → FewW rs → FewW qs → FewW (rs ++ qs)
-few-append [] qs a b = b
-few-append (r ∷ rs) qs a b = (a .0, few-append rs qs (a .1) b)
-
-few-rest : (rs qs : List Row) → FewW (rs ++ qs) → FewW qs
-few-rest [] qs a = a
-few-rest (r ∷ rs) qs a = few-rest rs qs (a .1)
-
-few-row : (k : Kind) (vs : Slots) (ws : List Slots) → length ws ≤ 3 → FewW (rowOf (item k vs ws))
-few-row k vs ws h = at (is k M) (is k R || is k X || (is k S && not (allEmpty vs)))
-  where
-    at : (b c : Bool) → FewW (if b (record { kind = M; pzn = number 0 (slot (bytes "p") (fieldsOf M) vs); slots = tail vs; ws = ws } ∷ []) (if c (record { kind = k; pzn = 0; slots = vs; ws = [] } ∷ []) []))
-    at true c = (h, tt)
-    at false true = (omega arith, tt)
-    at false false = tt
-
-few-said : (xs : List Item) → ItemsOk xs → FewW (rowsOf xs)
-few-said [] o = tt
-few-said (x ∷ xs) o = few-append (rowOf x) (rowsOf xs) (few-row (x .kind) (x .slots) (x .ws) (o .0 .three)) (few-said xs (o .1))
-
--- the W of an M are those of its row
-few-ws : (k : Kind) (vs : Slots) (ws : List Slots) (rs : List Row) → is k M ≡ true → FewW (rowOf (item k vs ws) ++ rs) → length ws ≤ 3
-few-ws k vs ws rs e h = (rw e at h) .0
-
--- a start tag without a fault of its own
-sound-own : (k : Kind) (i : ℕ) (l : List Attr) → own k i l ≡ [] → Sound k l
-unfolding strange
-sound-own k i l e =
-    let fs : List Field = fieldsOf k in
-    let vs : Slots = slotsOf fs l in
-    let ns : List (List ℕ) = names l in
-    let b₅ : Bool = not (every (λ n. elem n (lettersOf fs)) ns) || twice ns in
-    let b₇ : Bool = broken fs vs || mpOver k vs in
-    let b₈ : Bool = missing fs vs || clash (excluded k) ns || mpHalf k vs in
-    let (x₅, e₆) = fault-nil b₅ 5 i (fault (mpVersion k vs) 6 i ++ (fault b₇ 7 i ++ fault b₈ 8 i)) e in
-    let (x₆, e₇) = fault-nil (mpVersion k vs) 6 i (fault b₇ 7 i ++ fault b₈ 8 i) e₆ in
-    let (x₇, e₈) = fault-nil b₇ 7 i (fault b₈ 8 i) e₇ in
-    record { known = x₅; kept = neither (broken fs vs) (mpOver k vs) x₇ .0 }
-
-fit-tags : (ts : List Tag) (st : Stack) → faults st ts ≡ [] → FewW (rowsFrom ts) → Fit ts
-unfolding rowsFrom
-fit-tags [] st f r = tt
-fit-tags (end ∷ ts) [] f r = fit-tags ts [] f r
-fit-tags (end ∷ ts) (F ∷ st) f r = fit-tags ts st (fault-nil (lacks (F .kind) (F .seen) (F .slots)) 8 (F .at) (faults st ts) f .1) r
-fit-tags (start i n l ∷ ts) st f r =
-    let k : Kind = kindNamed n in
-    let vs : Slots = slotsOf (fieldsOf k) l in
-    let (x, y) = append-nil-both (here st (start i n l)) (faults (next st (start i n l)) ts) f in
-    let o = fault-nil (is (kindIn st n) unknown || misplaced st (kindIn st n)) 5 i (own (kindIn st n) i l) x .1 in (
-      subst (λ (j : Kind). Sound j l) (sym (kind-in st i n l x)) (sound-own (kindIn st n) i l o),
-      λ e. few-ws k vs (wsFrom ts) (rowsFrom ts) e r,
-      fit-tags ts (next st (start i n l)) y (few-rest (rowOf (item k vs (wsFrom ts))) (rowsFrom ts) r),
-    )
-
--- a sheet's head is not longer than a page
-head-short : (w : List ℕ) (s : Sheet) → judge w ≡ sheet s → length (concat (headValues (s .head))) ≤ 1400
-unfolding textOf planValues
-head-short w s e =
-    let p : Said.Plan = record { head = s .head; rows = [] } in
-    let ok : sound p ≡ true = rw (judge-ok w s e .head-ok) in
-    omega (arith, text-weight p ok, sheet-weight w s e, ap (λ (vs : Slots). length (concat vs)) (append-nil (headValues (s .head))))
-
-head-is : (ts : List Tag) → contentOf ts .head ≡ headFrom ts
-unfolding contentOf
-head-is ts = refl
-
--- a page without faults can be laid out, and its number and count are page numbers
-page-fits : (w : List ℕ) (t : List Tag) → FinePage w t → PageFits w
-page-fits w t P =
-    let ts : List Tag = placed (length w) t in
-    let clean = P .faultless in
-    let few : FewW (rowsFrom ts) = subst FewW (rows-is ts (page-placed (length w) (exact w t .1 (P .whole))) clean) (few-said (items [] ts) (items-ok ts [] tt clean)) in
-    let N = numbered w (contentOf (tagsAt w 0)) (P .content) in
-    record {
-      short = P .few-bytes;
-      fit = subst Fit (sym (walked w t (P .whole))) (fit-tags ts [] clean few);
-      no-small = omega (arith, N .most, N .nine);
-      of-small = N .nine;
-      head-short = rw (← head-is (tagsAt w 0)) (head-short w (contentOf (tagsAt w 0)) (P .content));
-    }
-
-sheet-once : (s t : Sheet) → sheet s ≡ sheet t → s ≡ t
-sheet-once s t e = cc
-
--- such a page says what its tags say
+-- a page that is judged to a sheet can be laid out, its number and count are page numbers, and it says what its tags say
 said : (w : List ℕ) (s : Sheet) → judge w ≡ sheet s → PageFits w × (s ≡ contentOf (tagsAt w 0))
 said w s e =
-    let (t, P) = fine-content w (ap verdictOf e) in
-    (page-fits w t P, sheet-once s (contentOf (tagsAt w 0)) (sym e ∙ P .content))
+    let q = page-content w s e in
+    let N = numbered w s e in (
+      record {
+        short = judges w s e .short;
+        fit = page-fit w s e;
+        no-small = rw q (omega (arith, N .most, N .nine));
+        of-small = rw q (N .nine);
+        head-short = omega (arith, page-short w s e);
+      },
+      sym q,
+    )
 
 -- so do all pages, where none is refused
 pub all-said : (ws : List (List ℕ)) (k : ℕ) (l : List Sheet) → judgeAll k ws ≡ sheets l → AllFit ws × (l ≡ sheetsOf ws)
@@ -340,11 +251,6 @@ clean ws a e z = at (judgeAll 1 ws) refl e
     at (sheets l) p e =
         let (f, q) = all-said ws 1 l p in
         record { fits = f; joins = ap decide p ∙ ap join q }
-
--- as many sheets as pages
-pub sheets-count : (ws : List (List ℕ)) → length (sheetsOf ws) ≡ length ws
-sheets-count [] = refl
-sheets-count (w ∷ ws) = ap suc (sheets-count ws)
 
 -- the count that the first page says is a page number
 pub count-small : (ws : List (List ℕ)) → AllFit ws → countSaid (sheetsOf ws) ≤ 9

@@ -4,18 +4,9 @@ use Prim.Native.Nat.{ℕ}
 use lib.Dec.{eqb}
 use Rattle.paper.specs.Lists.{if}
 use Rattle.paper.specs.Reading as Paper
+use Rattle.paper.specs.Reading.{Numbers, numbers}
 use Rattle.reader.specs.declared.answer.Answer.{Answer}
 use Rattle.reader.specs.declared.answer.Answer.the-variants.{Plan, NoRoom, PageSize, ByteRefused, Malformed, OutOfPlace, OtherEdition, BrokenValue, Incomplete, OtherHead, NumberTwice, NumberMissing, TooManyRows}
-
--- "An answer carries number, page, place."
-pub record Numbers : Type 0 where
-  pub number : ℕ
-  pub page : ℕ
-  pub place : ℕ
-
--- three numbers of an answer
-abbrev pub numbers : ℕ → ℕ → ℕ → Numbers
-numbers n k i = record { number = n; page = k; place = i }
 
 -- the table of refusals: what each case carries; a plan is 0, 0, 0
 abbrev pub numbersOf : Answer → Numbers

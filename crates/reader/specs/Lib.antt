@@ -1,6 +1,5 @@
 -- What reading promises (Promise), with the numbers of its answer (Answers); the other definitions serve the code.
 pub mod Promise
 pub mod Answers
-pub mod Lent
 pub mod Pages
 pub mod Joining

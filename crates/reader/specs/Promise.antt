@@ -6,14 +6,14 @@ use mathlib.Core.List.{List}
 use Prim.Native.Nat.{ℕ}
 use lib.ListN.{length}
 use Rattle.paper.specs.Reading as Paper
+use Rattle.paper.specs.Reading.{numbers}
 use Rattle.paper.specs.Plan as Said
 use Rattle.paper.specs.Layout.{textOf}
 use Rattle.paper.specs.Calls.{readCall}
 use Rattle.markup.specs.Laid.{laid}
-use Rattle.plan.specs.Numbers.{planNumbers, planRows}
+use Rattle.plan.specs.Numbers.{rowsLent, planNumbers, planRows}
 use Rattle.plan.specs.Records.{emptyPlan}
-use Rattle.reader.specs.Answers.{numbersOf, numbers, pageRefusal}
-use Rattle.reader.specs.Lent.{rowsLent}
+use Rattle.reader.specs.Answers.{numbersOf, pageRefusal}
 use Rattle.reader.specs.declared.answer.Answer.{Answer}
 use Rattle.reader.specs.declared.answer.Answer.the-variants.{Plan}
 use Rattle.reader.specs.declared.reading.Reading.{Reading}

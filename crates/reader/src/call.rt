@@ -5,7 +5,7 @@ ghost use Prim.Native.Nat.{_+_};
 ghost use lib.Dec.{leb};
 ghost use lib.ListN.{length};
 ghost use Rattle.paper.specs.Calls.{inside, roomy};
-ghost use Rattle.reader.specs.Lent.{rowsLent};
+ghost use Rattle.plan.specs.Numbers.{rowsLent};
 
 // Whether a page of that start and length lies in a buffer of so many bytes. No start and no length is too large to ask for.
 pub fn lies_in(size: usize, start: usize, len: usize) -> bool

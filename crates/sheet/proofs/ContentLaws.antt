@@ -15,7 +15,7 @@ use borrow.Author.Tests.{eq-eqb, ne-eqb, eqb-true, leb-true}
 use Rattle.paper.specs.Lists.{if, concat, same, isEmpty}
 use Rattle.paper.specs.Grammar.{Attr, Tag, end}
 use Rattle.paper.specs.Values.{value}
-use Rattle.paper.specs.Fields.{Kind, M, R, S, W, X, code, is, Field, fieldsOf}
+use Rattle.paper.specs.Fields.{Kind, M, R, S, W, X, code, is, fieldsOf}
 use Rattle.paper.specs.Rules.{isZero}
 use Rattle.paper.specs.Plan.{Slots, Row}
 use Rattle.paper.specs.Judging.{slotsOf, allEmpty, item, rowOf}
@@ -30,21 +30,16 @@ use Rattle.fields.specs.Places.{fieldAt, firstOf, countOf, kindAt, ruleAt, rule
 use Rattle.fields.proofs.TableLaws.{field-at, code-back}
 use Rattle.fields.proofs.RuleLaws.{rule-back}
 use Rattle.plan.specs.Numbers.{flat, kindNumber}
+use Rattle.plan.proofs.Shown.{concat-append}
 use Rattle.plan.proofs.Stores.{laid-long}
 use Rattle.plan.specs.declared.Span as Code
 use Rattle.sheet.specs.declared.found.Raw.{Raw}
-use Rattle.sheet.specs.Found.{settledIn, noRaw, rawsAt, Lie, Tells}
-use Rattle.sheet.specs.Flaws.{slotsAt}
+use Rattle.sheet.specs.Found.{noRaw, told, Lie}
 use Rattle.sheet.specs.Content.{kindNamed, attrsOfFirst, wsFrom, rowsFrom}
-use Rattle.sheet.specs.Laying.{settled, toldIn, told, Sound, Fit, Room, startOf, Lays, pairs, givesRow, rowFrom}
+use Rattle.sheet.specs.Laying.{settled, Sound, Fit, Room, startOf, Lays, pairs, givesRow, rowFrom}
 use Rattle.sheet.proofs.FlawLaws.{slots-long, slot-at}
-use Rattle.sheet.proofs.FlawLaws as flaws
 
 -- ---- lists of values
-
-pub concat-append : (us vs : Slots) → concat (us ++ vs) ≡ concat us ++ concat vs
-concat-append [] vs = refl
-concat-append (u ∷ us) vs = rw (concat-append us vs) (sym (append-assoc u (concat us) (concat vs)))
 
 spans-append : (n : ℕ) (us vs : Slots) → flat (spansFrom n (us ++ vs)) ≡ flat (spansFrom n us) ++ flat (spansFrom (n + length (concat us)) vs)
 spans-append n [] vs = rw (add-zero n)
@@ -222,29 +217,15 @@ none-left {all} {text₀} {text} {n} {m} {numbers₀} {numbers} {at} {b} vs to j
 
 -- ---- what the spans of a tag tell
 
-told-in : (w : List ℕ) (fs : List Field) (rs : List Raw) → toldIn w fs rs ≡ settledIn fs (rawsAt w (length fs) rs)
-told-in w [] rs = refl
-told-in w (f ∷ fs) [] = rw (told-in w fs [])
-told-in w (f ∷ fs) (r ∷ rs) = rw (told-in w fs rs)
-
--- the slots that are laid are the slots that are judged
-told-judged : (w : List ℕ) (k : Kind) (rs : List Raw) → told w k rs ≡ slotsAt w k rs
-unfolding told slotsAt
-told-judged w k rs = told-in w (fieldsOf k) rs
-
--- the spans tell an element's slots
-pub told-slots : (w : List ℕ) (k : Kind) (rs : List Raw) (l : List Attr) → Tells w k rs l → told w k rs ≡ slotsOf (fieldsOf k) l
-told-slots w k rs l T = told-judged w k rs ∙ flaws.told-slots T
-
 pub told-long : (w : List ℕ) (k : Kind) (rs : List Raw) → length (told w k rs) ≡ countOf k
 unfolding countOf
-told-long w k rs = ap length (told-judged w k rs) ∙ slots-long w k rs
+told-long w k rs = slots-long w k rs
 
 -- one of the slots, by its place
 pub told-at : (w : List ℕ) (k : Kind) (rs : List Raw) (j : ℕ) → j < countOf k
     → getD (told w k rs) j [] ≡ settled (firstOf k + j) (slice (getD rs j noRaw .at) (getD rs j noRaw .end) w)
 unfolding settled countOf
-told-at w k rs j h = ap (λ (vs : Slots). getD vs j []) (told-judged w k rs) ∙ slot-at w k rs j h ∙ rw (field-at k j h)
+told-at w k rs j h = slot-at w k rs j h ∙ rw (field-at k j h)
 
 -- the same, by the place of the element's first field
 pub told-here : (w : List ℕ) (k : Kind) (rs : List Raw) (first j : ℕ) → first ≡ firstOf k → j < countOf k
@@ -483,9 +464,6 @@ heading-t w rs n m e h f =
     rw (told-two w rs, q, and-true (isEmpty (valueAt w rs 1)), empty-is (valueAt w rs 1), g)
 
 -- ---- spans from their numbers
-
-pair-drop : (n : ℕ) (l : List ℕ) → pairs (suc n) l ≡ record { at = getD l 0 0; len = getD l 1 0 } ∷ pairs n (drop 2 l)
-pair-drop n l = refl
 
 -- one span more is made
 pub pair-turn : (l : List ℕ) (spans : List Code.Span) (j : ℕ) (all : List Code.Span) → j < 27 → length spans ≡ 27 → all ≡ take j spans ++ pairs (27 - j) (drop (2 * j) l)

@@ -28,8 +28,8 @@ use Rattle.fields.proofs.ColumnLaws.{rule-at, must-at, bit-one}
 use Rattle.fields.proofs.RuleLaws.{rule-back}
 use Rattle.sheet.specs.declared.found.Raw.{Raw}
 use Rattle.sheet.specs.Fold.{flaw, needsW}
-use Rattle.sheet.specs.Found.{settledIn, thereIn, noRaw, shownBy, rawsAt, thereAt, Tells}
-use Rattle.sheet.specs.Flaws.{slotsAt, settleBy, fieldFlaw, fieldsFlaw, pagesFlaw, digitsFlaw, clashThere, clashAt}
+use Rattle.sheet.specs.Found.{settledIn, thereIn, noRaw, shownBy, rawsAt, told, thereAt, Tells}
+use Rattle.sheet.specs.Flaws.{settleBy, fieldFlaw, fieldsFlaw, pagesFlaw, digitsFlaw, clashThere, clashAt}
 use Rattle.sheet.proofs.FoundLaws.{slots-found, shown-at, there-at, there-place}
 
 -- ---- a value that a span shows
@@ -205,21 +205,21 @@ settled-at (f ∷ fs) (r ∷ rs) zero h l = refl
 settled-at (f ∷ fs) (r ∷ rs) (suc j) h l = settled-at fs rs j (omega arith) (omega arith)
 
 -- an element has a slot for each of its fields
-pub slots-long : (w : List ℕ) (k : Kind) (rs : List Raw) → length (slotsAt w k rs) ≡ length (fieldsOf k)
-unfolding slotsAt
+pub slots-long : (w : List ℕ) (k : Kind) (rs : List Raw) → length (told w k rs) ≡ length (fieldsOf k)
+unfolding told
 slots-long w k rs = settled-long (fieldsOf k) (rawsAt w (length (fieldsOf k)) rs) (raws-long w (length (fieldsOf k)) rs)
 
 -- the slot at a place
 pub slot-at : (w : List ℕ) (k : Kind) (rs : List Raw) (j : ℕ) → j < length (fieldsOf k)
-    → getD (slotsAt w k rs) j [] ≡ settle (getD (fieldsOf k) j noField) (value (shownBy w (getD rs j noRaw)))
-unfolding slotsAt
+    → getD (told w k rs) j [] ≡ settle (getD (fieldsOf k) j noField) (value (shownBy w (getD rs j noRaw)))
+unfolding told
 slot-at w k rs j h =
     settled-at (fieldsOf k) (rawsAt w (length (fieldsOf k)) rs) j h (raws-long w (length (fieldsOf k)) rs)
     ∙ ap (λ (r : List ℕ). settle (getD (fieldsOf k) j noField) (value r)) (shown-at w (length (fieldsOf k)) rs j h)
 
 -- what is left of an element's fields, from the j-th on
 abbrev pub fieldsFrom : List ℕ → Kind → List Raw → ℕ → ℕ → ℕ
-fieldsFrom w k rs m j = fieldsFlaw m (drop j (fieldsOf k)) (drop j (slotsAt w k rs))
+fieldsFrom w k rs m j = fieldsFlaw m (drop j (fieldsOf k)) (drop j (told w k rs))
 
 -- the fault x is found at the j-th of the element's c fields, which stand in the table from a on
 module _ (w : List ℕ) (k : Kind) (rs : List Raw) (m j a c x : ℕ) (p : a ≡ firstOf k) (q : c ≡ countOf k) (h : j < c)
@@ -228,29 +228,29 @@ module _ (w : List ℕ) (k : Kind) (rs : List Raw) (m j a c x : ℕ) (p : a ≡ 
   unfolding countOf
   in-fields = omega arith
 
-  in-slots : j < length (slotsAt w k rs)
+  in-slots : j < length (told w k rs)
   in-slots = let l = in-fields in omega (arith, slots-long w k rs)
 
-  found-here : x ≡ fieldFlaw (getD (fieldsOf k) j noField) (getD (slotsAt w k rs) j [])
+  found-here : x ≡ fieldFlaw (getD (fieldsOf k) j noField) (getD (told w k rs) j [])
   unfolding countOf
   found-here = e ∙ rw (p, ← field-at k j in-fields, slot-at w k rs j in-fields)
 
   -- a value breaks its field
   pub turn-broken : x ≡ 7 → fieldsFrom w k rs m j ≡ 7
-  turn-broken = fields-broken m (fieldsOf k) (slotsAt w k rs) j in-fields in-slots x found-here
+  turn-broken = fields-broken m (fieldsOf k) (told w k rs) j in-fields in-slots x found-here
 
   -- a field is missing
   pub turn-missing : x ≡ 8 → fieldsFrom w k rs m j ≡ fieldsFrom w k rs 8 (j + 1)
-  turn-missing = fields-missing m (fieldsOf k) (slotsAt w k rs) j in-fields in-slots x found-here
+  turn-missing = fields-missing m (fieldsOf k) (told w k rs) j in-fields in-slots x found-here
 
   -- a field has no fault
   pub turn-fine : (x ≡ 7 → ⊥) → (x ≡ 8 → ⊥) → fieldsFrom w k rs m j ≡ fieldsFrom w k rs m (j + 1)
-  turn-fine = fields-fine m (fieldsOf k) (slotsAt w k rs) j in-fields in-slots x found-here
+  turn-fine = fields-fine m (fieldsOf k) (told w k rs) j in-fields in-slots x found-here
 
 -- no field is left
 pub turn-done : (w : List ℕ) (k : Kind) (rs : List Raw) (m j c : ℕ) → c ≡ countOf k → c ≤ j → fieldsFrom w k rs m j ≡ m
 unfolding countOf
-turn-done w k rs m j c q h = fields-done m (fieldsOf k) (slotsAt w k rs) j (omega arith)
+turn-done w k rs m j c q h = fields-done m (fieldsOf k) (told w k rs) j (omega arith)
 
 -- ---- a slot by its letters
 
@@ -266,28 +266,28 @@ slot-placed n (f ∷ fs) (v ∷ vs) h = go (same n (f .letters)) (slot-placed n 
 
 -- the slot of the field with those letters, by its place
 slot-of : (w : List ℕ) (k : Kind) (rs : List Raw) (n : List ℕ) (j : ℕ) → placeIn n (fieldsOf k) ≡ j → j < length (fieldsOf k)
-    → slot n (fieldsOf k) (slotsAt w k rs) ≡ settle (getD (fieldsOf k) j noField) (value (shownBy w (getD rs j noRaw)))
-slot-of w k rs n j e h = slot-placed n (fieldsOf k) (slotsAt w k rs) (slots-long w k rs) ∙ rw e (slot-at w k rs j h)
+    → slot n (fieldsOf k) (told w k rs) ≡ settle (getD (fieldsOf k) j noField) (value (shownBy w (getD rs j noRaw)))
+slot-of w k rs n j e h = slot-placed n (fieldsOf k) (told w k rs) (slots-long w k rs) ∙ rw e (slot-at w k rs j h)
 
 -- MP's edition, its number and its count; M's package number and its name
 module _ (w : List ℕ) (rs : List Raw) where
-  edition-slot : slot (bytes "v") (fieldsOf MP) (slotsAt w MP rs) ≡ value (shownBy w (getD rs 0 noRaw))
+  edition-slot : slot (bytes "v") (fieldsOf MP) (told w MP rs) ≡ value (shownBy w (getD rs 0 noRaw))
   unfolding fieldsOf
   edition-slot = slot-of w MP rs (bytes "v") 0 refl (omega arith)
 
-  number-slot : slot (bytes "a") (fieldsOf MP) (slotsAt w MP rs) ≡ value (shownBy w (getD rs 4 noRaw))
+  number-slot : slot (bytes "a") (fieldsOf MP) (told w MP rs) ≡ value (shownBy w (getD rs 4 noRaw))
   unfolding fieldsOf
   number-slot = slot-of w MP rs (bytes "a") 4 refl (omega arith)
 
-  count-slot : slot (bytes "z") (fieldsOf MP) (slotsAt w MP rs) ≡ value (shownBy w (getD rs 5 noRaw))
+  count-slot : slot (bytes "z") (fieldsOf MP) (told w MP rs) ≡ value (shownBy w (getD rs 5 noRaw))
   unfolding fieldsOf
   count-slot = slot-of w MP rs (bytes "z") 5 refl (omega arith)
 
-  package-slot : slot (bytes "p") (fieldsOf M) (slotsAt w M rs) ≡ value (shownBy w (getD rs 0 noRaw))
+  package-slot : slot (bytes "p") (fieldsOf M) (told w M rs) ≡ value (shownBy w (getD rs 0 noRaw))
   unfolding fieldsOf
   package-slot = slot-of w M rs (bytes "p") 0 refl (omega arith)
 
-  name-slot : slot (bytes "a") (fieldsOf M) (slotsAt w M rs) ≡ value (shownBy w (getD rs 1 noRaw))
+  name-slot : slot (bytes "a") (fieldsOf M) (told w M rs) ≡ value (shownBy w (getD rs 1 noRaw))
   unfolding fieldsOf
   name-slot = slot-of w M rs (bytes "a") 1 refl (omega arith)
 
@@ -307,11 +307,11 @@ not-kind e n h q = rw (code-back e h) (ne-eqb e n q)
 
 module _ (w : List ℕ) (rs : List Raw) (e : ℕ) (h : e < 10) where
   -- another element has none
-  pub no-edition : (e ≡ 1 → ⊥) → false ≡ mpVersion (kindAt e) (slotsAt w (kindAt e) rs)
+  pub no-edition : (e ≡ 1 → ⊥) → false ≡ mpVersion (kindAt e) (told w (kindAt e) rs)
   no-edition q = rw (not-kind e 1 h q)
 
   -- MP's, and whether it is 027
-  pub edition-by : e ≡ 1 → (v : List ℕ) → v ≡ value (shownBy w (getD rs 0 noRaw)) → (b : Bool) → b ≡ same v (bytes "027") → not b ≡ mpVersion (kindAt e) (slotsAt w (kindAt e) rs)
+  pub edition-by : e ≡ 1 → (v : List ℕ) → v ≡ value (shownBy w (getD rs 0 noRaw)) → (b : Bool) → b ≡ same v (bytes "027") → not b ≡ mpVersion (kindAt e) (told w (kindAt e) rs)
   edition-by q v f b g = rw (is-plan e q, edition-slot w rs, ← f, g)
 
 -- ---- MP's number and count
@@ -343,16 +343,16 @@ unbroken-at (f ∷ fs) [] j e h l = absurd (omega arith)
 unbroken-at (f ∷ fs) (v ∷ vs) zero e h l = neither (breaks f v) (broken fs vs) e .0
 unbroken-at (f ∷ fs) (v ∷ vs) (suc j) e h l = unbroken-at fs vs j (neither (breaks f v) (broken fs vs) e .1) (omega arith) (omega arith)
 
-module _ (w : List ℕ) (rs : List Raw) (e : broken (fieldsOf MP) (slotsAt w MP rs) ≡ false) where
+module _ (w : List ℕ) (rs : List Raw) (e : broken (fieldsOf MP) (told w MP rs) ≡ false) where
   number-one : One (value (shownBy w (getD rs 4 noRaw)))
   unfolding fieldsOf
   number-one = one-digit (bytes "a") (value (shownBy w (getD rs 4 noRaw)))
-      (rw (slot-at w MP rs 4 (omega arith)) at (unbroken-at (fieldsOf MP) (slotsAt w MP rs) 4 e (omega arith) (slots-long w MP rs)))
+      (rw (slot-at w MP rs 4 (omega arith)) at (unbroken-at (fieldsOf MP) (told w MP rs) 4 e (omega arith) (slots-long w MP rs)))
 
   count-one : One (value (shownBy w (getD rs 5 noRaw)))
   unfolding fieldsOf
   count-one = one-digit (bytes "z") (value (shownBy w (getD rs 5 noRaw)))
-      (rw (slot-at w MP rs 5 (omega arith)) at (unbroken-at (fieldsOf MP) (slotsAt w MP rs) 5 e (omega arith) (slots-long w MP rs)))
+      (rw (slot-at w MP rs 5 (omega arith)) at (unbroken-at (fieldsOf MP) (told w MP rs) 5 e (omega arith) (slots-long w MP rs)))
 
 -- the fault of two such values
 abbrev pairFlaw : List ℕ → List ℕ → ℕ
@@ -374,18 +374,18 @@ by-digits (c ∷ x ∷ a) z p q = absurd p
 
 module _ (w : List ℕ) (rs : List Raw) (e : ℕ) (h : e < 10) where
   -- another element has none
-  pub no-pages : (e ≡ 1 → ⊥) → 9 ≡ pagesFlaw (kindAt e) (slotsAt w (kindAt e) rs)
+  pub no-pages : (e ≡ 1 → ⊥) → 9 ≡ pagesFlaw (kindAt e) (told w (kindAt e) rs)
   unfolding pagesFlaw
   no-pages q = rw (not-kind e 1 h q)
 
   -- MP's, by their digits
-  pub pages-by : e ≡ 1 → broken (fieldsOf (kindAt e)) (slotsAt w (kindAt e) rs) ≡ false
+  pub pages-by : e ≡ 1 → broken (fieldsOf (kindAt e)) (told w (kindAt e) rs) ≡ false
       → (a z : ℕ) → a ≡ getD (value (shownBy w (getD rs 4 noRaw))) 0 0 → z ≡ getD (value (shownBy w (getD rs 5 noRaw))) 0 0
-      → digitsFlaw a z ≡ pagesFlaw (kindAt e) (slotsAt w (kindAt e) rs)
+      → digitsFlaw a z ≡ pagesFlaw (kindAt e) (told w (kindAt e) rs)
   unfolding pagesFlaw
   pages-by q b a z f g =
       let k = is-plan e q in
-      let u : broken (fieldsOf MP) (slotsAt w MP rs) ≡ false = rw k at b in
+      let u : broken (fieldsOf MP) (told w MP rs) ≡ false = rw k at b in
       rw (k, number-slot w rs, count-slot w rs, f, g) (by-digits (value (shownBy w (getD rs 4 noRaw))) (value (shownBy w (getD rs 5 noRaw))) (number-one w rs u) (count-one w rs u))
 
 -- ---- excluded pairs
@@ -517,8 +517,8 @@ unbroken k vs own p ne = go (broken (fieldsOf k) vs) (λ q. ne (p ∙ q))
 
 module _ {w : List ℕ} {k : Kind} {rs : List Raw} {l : List Attr} (T : Tells w k rs l) where
   -- the element's slots
-  pub told-slots : slotsAt w k rs ≡ slotsOf (fieldsOf k) l
-  unfolding slotsAt
+  pub told-slots : told w k rs ≡ slotsOf (fieldsOf k) l
+  unfolding told
   told-slots = ap (settledIn (fieldsOf k)) (T .raws) ∙ sym (slots-found (fieldsOf k) l)
 
   -- its excluded pairs
@@ -529,7 +529,7 @@ module _ {w : List ℕ} {k : Kind} {rs : List Raw} {l : List Attr} (T : Tells w 
   -- ---- the least fault of the tag
 
   abbrev vs : Slots
-  vs = slotsAt w k rs
+  vs = told w k rs
 
   abbrev Least : ℕ → Type 0
   Least n = n ≡ flaw k (names l) (slotsOf (fieldsOf k) l)

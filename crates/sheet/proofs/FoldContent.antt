@@ -20,9 +20,10 @@ use Rattle.paper.specs.Judging.{Fault, slotsOf, Frame, frame, Stack, kindIn, no
 use Rattle.paper.proofs.Small.{no}
 use Rattle.paper.proofs.Given.{fault-nil, append-nil-both}
 use Rattle.paper.proofs.Told.{Bal, Root, page-placed, is-eq, started}
+use Rattle.paper.proofs.ReadSound.{root-mp}
 use Rattle.sheet.specs.Fold.{given, foldPage, answer}
 use Rattle.sheet.specs.Content.{kindNamed, attrsOfFirst, slotsFrom, partFrom, wsFrom, rowsFrom, headFrom, contentOf}
-use Rattle.sheet.proofs.Nesting.{Kid, asP, asA, asO, asS, asM, asR, asX, asW, box, Shape, top, in-it, shape-enter, shape-leave, alone, kid-of, known-name, root-mp, root-shape}
+use Rattle.sheet.proofs.Nesting.{Kid, asP, asA, asO, asS, asM, asR, asX, asW, box, Shape, top, in-it, shape-enter, shape-leave, alone, kid-of, known-name, root-shape}
 use Rattle.sheet.proofs.FoldJudge.{after-last, fold-judge, fold-spotless}
 
 -- ---- names

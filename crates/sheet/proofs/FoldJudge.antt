@@ -19,8 +19,11 @@ use Rattle.paper.specs.Judging.{Fault, fault, names, slotsOf, mpVersion, Frame,
 use Rattle.paper.proofs.Small.{neither}
 use Rattle.paper.proofs.Least.{judged-by-tags}
 use Rattle.paper.proofs.Told.{Bal, Root, page-placed, is-eq}
-use Rattle.sheet.specs.Fold.{given, spotless, St, outside, kidsOf, kindUnder, parent, rankOf, full, barred, strange, amiss, unfit, flaw, needsW, opened, closed, finished, judgeFold, foldPage, answer}
-use Rattle.sheet.proofs.Nesting.{Kid, asP, asA, asO, asS, asM, asR, asX, asW, box, Shape, top, in-it, shape-enter, shape-leave, alone, kid-of, kids-top, root-mp, root-shape}
+use Rattle.paper.proofs.ReadSound.{root-mp}
+use Rattle.fields.specs.Places.{rankOf}
+use Rattle.sheet.specs.Fold.{given, spotless, St, outside, kidsOf, kindUnder, parent, full, barred, strange, amiss, unfit, flaw, needsW, opened, closed, finished, judgeFold, foldPage, answer}
+use Rattle.sheet.proofs.FoundLaws.{or-true}
+use Rattle.sheet.proofs.Nesting.{Kid, asP, asA, asO, asS, asM, asR, asX, asW, box, Shape, top, in-it, shape-enter, shape-leave, alone, kid-of, kids-top, root-shape}
 use Rattle.sheet.proofs.Places.{From, Ascends, page-ascends}
 use Rattle.sheet.proofs.LeastLaws.{least-append, Sound, sound-lower, AllPast, past-faults, sound-flaw, start-least, least-some, least-number}
 
@@ -42,10 +45,6 @@ record Ranked (n : ℕ) (b c : Bool) (js : List Kind) : Type 0 where
   order : (q : Kind) → Single q → past q js ≡ leb (rankOf q) n
   person : b ≡ not (eqb (howMany P js) 0)
   author : c ≡ not (eqb (howMany A js) 0)
-
-or-true : (b : Bool) → b || true ≡ true
-or-true true = refl
-or-true false = refl
 
 past-cons : (q k : Kind) (js : List Kind) → past q (k ∷ js) ≡ (later q k || is k q) || past q js
 past-cons q k js = at (later q k) (is k q) (some-of (later q) js) (howMany q js)

@@ -19,6 +19,7 @@ use Rattle.paper.proofs.Small.{no, neither, same-comm, same-self, same-eq, belo
 use Rattle.paper.proofs.Element.{distinct}
 use Rattle.markup.specs.Walk.{Inside, more, stops, insideAt}
 use Rattle.fields.specs.Places.{kindAt, noField, placeIn, countOf}
+use Rattle.fields.proofs.RuleLaws.{and-false}
 use Rattle.fields.proofs.TableLaws.{known, found-letters}
 use Rattle.sheet.specs.declared.found.Raw.{Raw}
 use Rattle.sheet.specs.Fold.{strange}
@@ -198,11 +199,7 @@ every-seam p (x ∷ l) m = go (p x) (every-seam p l m)
     go true e = e
     go false e = refl
 
-and-false : (b : Bool) → b && false ≡ false
-and-false true = refl
-and-false false = refl
-
-or-true : (b : Bool) → b || true ≡ true
+pub or-true : (b : Bool) → b || true ≡ true
 or-true true = refl
 or-true false = refl
 

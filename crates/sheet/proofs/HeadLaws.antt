@@ -1,44 +1,44 @@
 -- HeadLaws: the first element of a kind, the values of MP by their places, and a head laid run by run.
 -- Assumes nothing.
 use mathlib.Core.Path.{_≡_, refl, sym, ap, _∙_, subst}
-use mathlib.Core.Logic.{_↔_}
-use mathlib.Core.Bool.{Bool, true, false, not, _&&_, _||_}
+use mathlib.Core.Bool.{Bool, true, false, not, _&&_}
 use mathlib.Core.Option.{Option, none, some}
-use mathlib.Core.List.{List, [], _∷_, _++_, map, append-assoc, append-nil}
+use mathlib.Core.List.{List, [], _∷_, _++_, map, append-nil}
 use Prim.Native.Nat.{ℕ, zero, suc, _+_, _*_, _-_, _≤_, _<_}
-use native.Mathlib.Nat.{add-zero, zero-add}
+use native.Mathlib.Nat.{zero-add}
 use native.Mathlib.Omega.{arith}
 use lib.Dec.{eqb, leb}
-use lib.ListN.{length, take, drop, getD, set, length-append}
+use lib.ListN.{length, getD, set, length-append}
 use lib.Seq.{slice, slice-cons, slice-empty, take-all, drop-length}
-use borrow.Author.Tests.{eqb-true, eqb-false, leb-true}
-use Rattle.paper.specs.Lists.{bytes, if, concat, every, count, number}
+use borrow.Author.Tests.{eqb-false, leb-true}
+use Rattle.paper.specs.Lists.{bytes, if, every, count, number}
 use Rattle.paper.specs.Bytes.{isDecoded}
 use Rattle.paper.specs.Grammar.{Attr, Tag, start, end}
 use Rattle.paper.specs.Values.{value}
 use Rattle.paper.specs.Fields.{Kind, MP, P, A, O, is, Field, fieldsOf, pageNo}
 use Rattle.paper.specs.Rules.{isZero, obeys, keeps}
-use Rattle.paper.specs.Plan.{Slots, Head, Plan, slot, blank}
+use Rattle.paper.specs.Plan.{Slots, Head, slot, blank}
 use Rattle.paper.specs.Judging.{names, slotsOf, breaks, broken, or}
 use Rattle.paper.specs.Layout.{Span, spansFrom, headValues}
 use Rattle.paper.proofs.Small.{no, both, neither, no-not, below-at}
 use Rattle.paper.proofs.Element.{settled-nil}
 use Rattle.paper.proofs.Told.{is-eq}
 use Rattle.markup.specs.Laid.{laid}
-use Rattle.markup.specs.Walk.{insideAt, tagsAt}
+use Rattle.markup.specs.Walk.{insideAt}
 use Rattle.fields.specs.Places.{noField, fieldAt, firstOf, countOf, kindAt, ruleNumber}
 use Rattle.fields.proofs.TableLaws.{field-at}
 use Rattle.fields.proofs.RuleLaws.{rule-back, not-dose}
-use Rattle.plan.specs.Numbers.{flat, codeSpan, headSpans, planNumbers, showHead}
+use Rattle.plan.specs.Numbers.{flat, codeSpan, headSpans}
 use Rattle.plan.proofs.Stores.{laid-long, laid-over}
-use Rattle.plan.proofs.Shown.{HeadShape, head-back}
+use Rattle.plan.proofs.Shown.{HeadShape, spans-count}
 use Rattle.plan.specs.declared.Span as Code
 use Rattle.sheet.specs.declared.found.Raw.{Raw}
 use Rattle.sheet.specs.Fold.{strange}
-use Rattle.sheet.specs.Found.{noRaw, Tells}
-use Rattle.sheet.specs.Content.{kindNamed, attrsOfFirst, slotsFrom, partFrom, headFrom, contentOf}
-use Rattle.sheet.specs.Laying.{settled, told, Sound, Fit, attrsIf, Room, Lays, pairs, LaysHead}
-use Rattle.sheet.proofs.ContentLaws.{Going, begin, turn, finish, told-slots, told-long, told-at, room-one, laid-none, two-stored, flat-long, room-first, room-behind, numbers-kept, placed-at, behind, front}
+use Rattle.sheet.specs.Found.{noRaw, Tells, told}
+use Rattle.sheet.specs.Content.{kindNamed, attrsOfFirst, slotsFrom, partFrom, headFrom}
+use Rattle.sheet.specs.Laying.{settled, Sound, Fit, attrsIf, Room, Lays, pairs}
+use Rattle.sheet.proofs.FlawLaws.{told-slots}
+use Rattle.sheet.proofs.ContentLaws.{told-long, told-at, room-one, laid-none, two-stored, flat-long, room-behind, numbers-kept, placed-at, behind}
 
 -- ---- the first element of a kind
 
@@ -74,7 +74,7 @@ part-slots k ts = go (attrsOfFirst k ts)
     go none = slots-nil (fieldsOf k)
     go (some l) = refl
 
-slots-long : (fs : List Field) (l : List Attr) → length (slotsOf fs l) ≡ length fs
+pub slots-long : (fs : List Field) (l : List Attr) → length (slotsOf fs l) ≡ length fs
 slots-long [] l = refl
 slots-long (f ∷ fs) l = ap suc (slots-long fs l)
 
@@ -88,7 +88,7 @@ module _ (w : List ℕ) (k : Kind) (ts : List Tag) (at : ℕ) (h : insideAt w at
   known-first = ap (λ (l : List Attr). strange k (names l)) h ∙ sound-first k ts f .known
 
   pub told-first : (rs : List Raw) → Tells w k rs (insideAt w at .attrs) → told w k rs ≡ partFrom k ts
-  told-first rs T = told-slots w k rs (insideAt w at .attrs) T ∙ ap (slotsOf (fieldsOf k)) h ∙ part-slots k ts
+  told-first rs T = told-slots T ∙ ap (slotsOf (fieldsOf k)) h ∙ part-slots k ts
 
 -- no value of it breaks its field
 pub part-kept : (k : Kind) (ts : List Tag) → Fit ts → broken (fieldsOf k) (partFrom k ts) ≡ false
@@ -114,7 +114,8 @@ kept-at (f ∷ fs) [] j e h = refl
 kept-at (f ∷ fs) (v ∷ vs) zero e h = neither (breaks f v) (broken fs vs) e .0
 kept-at (f ∷ fs) (v ∷ vs) (suc j) e h = kept-at fs vs j (neither (breaks f v) (broken fs vs) e .1) (omega arith)
 
-not-false : (b : Bool) → not b ≡ false → b ≡ true
+-- a test that failed, by its negation
+pub not-false : (b : Bool) → not b ≡ false → b ≡ true
 not-false true e = refl
 not-false false e = no e
 
@@ -352,10 +353,6 @@ pairs-flat : (ss : List Span) → pairs (length ss) (flat ss) ≡ map codeSpan s
 pairs-flat [] = refl
 pairs-flat (s ∷ ss) = ap (λ (l : List Code.Span). codeSpan s ∷ l) (pairs-flat ss)
 
-spans-long : (n : ℕ) (vs : Slots) → length (spansFrom n vs) ≡ length vs
-spans-long n [] = refl
-spans-long n (v ∷ vs) = ap suc (spans-long (n + length v) vs)
-
 -- numbers that are as many as those laid are just these
 whole-laid : (xs p : List ℕ) → length p ≡ length xs → laid xs 0 p ≡ p
 whole-laid xs p h =
@@ -377,43 +374,5 @@ head-spans h n numbers numbers′ ss H y e f =
     let x = values-long h H in
     let l : length (flat (spansFrom n (headValues h))) ≡ length numbers = flat-long n (headValues h) ∙ omega arith in
     let q : numbers′ ≡ flat (spansFrom n (headValues h)) = e ∙ whole-laid numbers (flat (spansFrom n (headValues h))) l in
-    let s : length (spansFrom n (headValues h)) ≡ 27 = spans-long n (headValues h) ∙ x in
+    let s : length (spansFrom n (headValues h)) ≡ 27 = spans-count n (headValues h) ∙ x in
     f ∙ ap (pairs 27) q ∙ ap (λ (k : ℕ). pairs k (flat (spansFrom n (headValues h)))) (sym s) ∙ pairs-flat (spansFrom n (headValues h))
-
--- ---- when two heads are the same
-
--- heads with one patch, one set of spans and one text are the same
-told-apart : (h g : Head) → HeadShape h → HeadShape g → h .patch ≡ g .patch → headSpans 0 h ≡ headSpans 0 g → concat (headValues h) ≡ concat (headValues g) → h ≡ g
-told-apart h g H G p s t =
-    let plan : Head → Plan = λ (x : Head). record { head = x; rows = [] } in
-    let a : concat (headValues h) ++ [] ≡ concat (headValues g) ++ [] = ap (λ (v : List ℕ). v ++ []) t in
-    let q : planNumbers (plan h) ≡ planNumbers (plan g) = rw (p, s) in
-    sym (head-back (plan h) [] H)
-    ∙ ap (λ (v : List ℕ). showHead v (planNumbers (plan h))) a
-    ∙ ap (showHead (concat (headValues g) ++ [])) q
-    ∙ head-back (plan g) [] G
-
--- The heads of two pages are the same exactly if the patches, the spans and the bytes that are laid for them from the beginning of a text on are.
-pub same-heads : (ts us : List Tag) {text text′ room room′ : List ℕ} {d e p q : ℕ} {ss rs : List Code.Span} → LaysHead (headFrom ts) text text′ 0 d p ss → LaysHead (headFrom us) room room′ 0 e q rs
-    → (headFrom ts ≡ headFrom us) ↔ ((p ≡ q) × (ss ≡ rs) × (take d text′ ≡ take e room′))
-same-heads ts us {text} {text′} {room} {room′} {d} {e} {p} {q} {ss} {rs} L K = (there, back)
-  where
-    x : take d text′ ≡ concat (headValues (headFrom ts))
-    x = front text text′ (concat (headValues (headFrom ts))) d (L .end-is) (L .text-is)
-
-    y : take e room′ ≡ concat (headValues (headFrom us))
-    y = front room room′ (concat (headValues (headFrom us))) e (K .end-is) (K .text-is)
-
-    there : headFrom ts ≡ headFrom us → (p ≡ q) × (ss ≡ rs) × (take d text′ ≡ take e room′)
-    there z = (
-      L .patch-is ∙ ap (λ (f : Head). f .patch) z ∙ sym (K .patch-is),
-      L .spans-are ∙ ap (headSpans 0) z ∙ sym (K .spans-are),
-      x ∙ ap (λ (f : Head). concat (headValues f)) z ∙ sym y,
-    )
-
-    back : (p ≡ q) × (ss ≡ rs) × (take d text′ ≡ take e room′) → headFrom ts ≡ headFrom us
-    back (a, b, c) =
-        told-apart (headFrom ts) (headFrom us) (head-full ts) (head-full us)
-        (sym (L .patch-is) ∙ a ∙ K .patch-is)
-        (sym (L .spans-are) ∙ b ∙ K .spans-are)
-        (sym x ∙ c ∙ y)

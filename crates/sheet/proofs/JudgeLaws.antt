@@ -1,23 +1,22 @@
--- JudgeLaws: one tag of the pass, as the walk tells it; the answer for each way in which a page is refused before its tags are looked at; and what
--- is known of a page that is fine.
+-- JudgeLaws: one tag of the pass, as the walk tells it; and the answer for each way in which a page is refused before its tags are looked at.
 -- Assumes nothing.
 use mathlib.Core.Path.{_≡_, refl, ap, sym, _∙_}
-use mathlib.Core.Bool.{Bool, true, false, _||_}
+use mathlib.Core.Bool.{Bool, true, false}
 use mathlib.Core.Option.{Option, none, some}
 use mathlib.Core.List.{List, [], _∷_}
-use Prim.Native.Nat.{ℕ, suc, _+_, _-_, _≤_, _<_}
+use Prim.Native.Nat.{ℕ, _+_, _-_, _≤_, _<_}
 use native.Mathlib.Omega.{arith}
-use lib.Dec.{eqb, ltb}
+use lib.Dec.{eqb}
 use lib.ListN.{length, take, drop}
 use lib.Seq.{slice}
-use borrow.Author.Tests.{ne-eqb, eqb-true, eqb-false, lt-ltb, le-ltb, ltb-false, le-leb, lt-leb}
+use borrow.Author.Tests.{ne-eqb, lt-ltb, le-ltb, le-leb, lt-leb}
 use Rattle.paper.specs.Lists.{if, every}
 use Rattle.paper.specs.Bytes.{isAllowed, firstRefused}
 use Rattle.paper.specs.Grammar.{Attr, Tag, start, end, placed}
 use Rattle.paper.specs.Fields.{code}
-use Rattle.paper.specs.Machine.{State, before, Move, stop, go, say, step, scan, one-more, eaten}
-use Rattle.paper.specs.Judging.{Fault, names, faults, Sheet, refused, sheet, judgeTags, judge}
-use Rattle.paper.proofs.Small.{unequal, neither}
+use Rattle.paper.specs.Machine.{before, scan, eaten}
+use Rattle.paper.specs.Judging.{Fault, names, Sheet, refused, sheet, judgeTags, judge}
+use Rattle.paper.proofs.Small.{unequal}
 use Rattle.paper.proofs.Exact.{exact}
 use Rattle.markup.specs.Extent.{extentBy, extentOf}
 use Rattle.markup.specs.Walk.{tagsAt, ended}
@@ -31,7 +30,7 @@ use Rattle.sheet.specs.Fold.{St, given, kindUnder, barred, strange, open
 use Rattle.sheet.specs.Content.{contentOf}
 use Rattle.sheet.specs.Judged.{left, verdictBy, verdictOf}
 use Rattle.sheet.specs.declared.judge.Verdict.the-variants.{Refused, Fine}
-use Rattle.sheet.proofs.FoldJudge.{fold-start, fold-spotless}
+use Rattle.sheet.proofs.FoldJudge.{fold-start}
 use Rattle.sheet.proofs.FoldContent.{fold-answer}
 
 -- ---- one tag of the pass
@@ -80,24 +79,6 @@ verdict-answer f s = at (eqb (f .no) 9)
     at true = refl
     at false = refl
 
-eaten-within : (w : List ℕ) (s : State) → eaten s w ≤ length w
-eaten-within [] s = omega arith
-eaten-within (c ∷ w) s = at (step s (suc (length w)) c) (λ t. eaten-within w t)
-  where
-    at : (m : Move) → ((t : State) → eaten t w ≤ length w) → one-more m (λ t. eaten t w) ≤ suc (length w)
-    at stop h = omega arith
-    at (go t) h = omega (arith, h t)
-    at (say ts t) h = omega (arith, h t)
-
--- the longest good beginning is no longer than the page
-pub good-within : (w : List ℕ) (k : ℕ) → Good k ≡ extentOf w → k ≤ length w
-unfolding extentOf
-good-within w k q = at (scan before w) q
-  where
-    at : (o : Option (List Tag)) → Good k ≡ extentBy o (eaten before w) → k ≤ length w
-    at none q = let e : k ≡ eaten before w = cc in rw e (eaten-within w before)
-    at (some t) q = let y : _≡_ {A = ℕ} 0 1 = cc in unequal y
-
 -- a page without bytes is refused
 pub page-empty : (w : List ℕ) → length w ≡ 0 → verdictOf (judge w) ≡ Refused 2 0
 unfolding judge
@@ -135,54 +116,3 @@ module _ (w : List ℕ) (z : length w ≡ 0 → ⊥) (h : length w ≤ 1400) whe
         at : (o : Option (List Tag)) → scan before w ≡ o → Whole ≡ extentBy o (eaten before w) → verdictOf (judge w) ≡ verdictBy (foldPage (tagsAt w 0))
         at none p q = let y : _≡_ {A = ℕ} 0 1 = cc in unequal y
         at (some t) p q = ap verdictOf (fold-answer w t (omega arith) h allowed (exact w t .1 p)) ∙ verdict-answer (foldPage (placed (length w) t)) (contentOf (placed (length w) t)) ∙ ap (λ (ts : List Tag). verdictBy (foldPage ts)) (sym (walked w t p))
-
--- ---- a page that is fine
-
--- what is known of such a page with those tags
-pub record FinePage (w : List ℕ) (t : List Tag) : Type 0 where
-  pub some-bytes : 1 ≤ length w
-  pub few-bytes : length w ≤ 1400
-  pub allowed-bytes : every isAllowed w ≡ true
-  pub whole : scan before w ≡ some t
-  pub faultless : faults [] (placed (length w) t) ≡ []
-  pub content : judge w ≡ sheet (contentOf (tagsAt w 0))
-
--- a page whose answer is Fine is well-formed and has no fault, and what it says is told by the tags that the walk finds
-pub fine-content : (w : List ℕ) → verdictOf (judge w) ≡ Fine → (t : List Tag) × FinePage w t
-unfolding judge
-fine-content w f = by-size (eqb (length w) 0 || ltb 1400 (length w)) refl f
-  where
-    by-fold : (t : List Tag) (b : Bool) → eqb (foldPage (placed (length w) t) .no) 9 ≡ b → 1 ≤ length w → length w ≤ 1400 → every isAllowed w ≡ true → scan before w ≡ some t
-        → verdictOf (judge w) ≡ Fine → FinePage w t
-    by-fold t true q g h c p f =
-        let d = exact w t .1 p in
-        record {
-          some-bytes = g;
-          few-bytes = h;
-          allowed-bytes = c;
-          whole = p;
-          faultless = fold-spotless w t d .0 (eqb-true (foldPage (placed (length w) t) .no) 9 q);
-          content = fold-answer w t g h c d ∙ rw (q, walked w t p);
-        }
-    by-fold t false q g h c p f =
-        let e : verdictOf (judge w) ≡ Refused (foldPage (placed (length w) t) .no) (foldPage (placed (length w) t) .place) = ap verdictOf (fold-answer w t g h c (exact w t .1 p)) ∙ rw q in
-        let y : _≡_ {A = ℕ} 0 1 = cc in
-        unequal y
-
-    by-tags : (o : Option (List Tag)) → scan before w ≡ o → 1 ≤ length w → length w ≤ 1400 → every isAllowed w ≡ true → verdictOf (judgeTags o w) ≡ Fine
-        → verdictOf (judge w) ≡ Fine → (t : List Tag) × FinePage w t
-    by-tags none p g h c q f = let y : _≡_ {A = ℕ} 0 1 = cc in unequal y
-    by-tags (some t) p g h c q f = (t, by-fold t (eqb (foldPage (placed (length w) t) .no) 9) refl g h c p f)
-
-    by-bytes : (b : Bool) → every isAllowed w ≡ b → 1 ≤ length w → length w ≤ 1400 → verdictOf (if b (judgeTags (scan before w) w) (refused 3 (firstRefused w))) ≡ Fine
-        → (t : List Tag) × FinePage w t
-    by-bytes true c g h q = by-tags (scan before w) refl g h c q f
-    by-bytes false c g h q = let y : _≡_ {A = ℕ} 0 1 = cc in unequal y
-
-    by-size : (b : Bool) → (eqb (length w) 0 || ltb 1400 (length w)) ≡ b
-        → verdictOf (if b (refused 2 0) (if (every isAllowed w) (judgeTags (scan before w) w) (refused 3 (firstRefused w)))) ≡ Fine → (t : List Tag) × FinePage w t
-    by-size true e q = let y : _≡_ {A = ℕ} 0 1 = cc in unequal y
-    by-size false e q =
-        let (x, y) = neither (eqb (length w) 0) (ltb 1400 (length w)) e in
-        let z = eqb-false (length w) 0 x in
-        by-bytes (every isAllowed w) refl (omega arith) (ltb-false 1400 (length w) y) q

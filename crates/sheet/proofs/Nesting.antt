@@ -10,7 +10,8 @@ use Rattle.paper.specs.Plan.{Slots}
 use Rattle.paper.specs.Judging.{Frame, frame, Stack, note}
 use Rattle.paper.proofs.Small.{no, same-eq}
 use Rattle.paper.proofs.Told.{is-eq}
-use Rattle.sheet.specs.Fold.{kindAt, kidsOf}
+use Rattle.fields.proofs.TableLaws.{kind-back}
+use Rattle.sheet.specs.Fold.{kidsOf}
 
 -- the second kind may stand in the first
 pub data Kid : Kind → Kind → Type 0 where
@@ -45,34 +46,25 @@ shape-enter F st k i ys c sh = in-it c (shape-note (F .kind) k (F .at) (F .seen)
 pub shape-leave : (F G : Frame) (st : Stack) → Shape (F ∷ G ∷ st) → Shape (G ∷ st)
 shape-leave F G st (in-it c sh) = sh
 
-kid-known : {K k : Kind} → Kid K k → is k unknown ≡ false
-kid-known asP = refl
-kid-known asA = refl
-kid-known asO = refl
-kid-known asS = refl
-kid-known asM = refl
-kid-known asR = refl
-kid-known asX = refl
-kid-known asW = refl
-
-not-mp : {K k : Kind} → Kid K k → is k MP ≡ false
-not-mp asP = refl
-not-mp asA = refl
-not-mp asO = refl
-not-mp asS = refl
-not-mp asM = refl
-not-mp asR = refl
-not-mp asX = refl
-not-mp asW = refl
+-- what stands in another element is known, and no MP
+kid-not : {K k : Kind} → Kid K k → (is k unknown ≡ false) × (is k MP ≡ false)
+kid-not asP = (refl, refl)
+kid-not asA = (refl, refl)
+kid-not asO = (refl, refl)
+kid-not asS = (refl, refl)
+kid-not asM = (refl, refl)
+kid-not asR = (refl, refl)
+kid-not asX = (refl, refl)
+kid-not asW = (refl, refl)
 
 -- MP is the outermost element
 pub alone : (i : ℕ) (js : List Kind) (vs : Slots) (us : List Slots) (st : Stack) → Shape (box MP i js vs us ∷ st) → st ≡ []
 alone i js vs us [] top = refl
-alone i js vs us (G ∷ st) (in-it c sh) = no (not-mp c)
+alone i js vs us (G ∷ st) (in-it c sh) = no (kid-not c .1)
 
 known-top : (F : Frame) (st : Stack) → Shape (F ∷ st) → is (F .kind) unknown ≡ false
 known-top F [] top = refl
-known-top F (G ∷ st) (in-it c sh) = kid-known c
+known-top F (G ∷ st) (in-it c sh) = kid-not c .0
 
 -- ---- names
 
@@ -115,32 +107,9 @@ known-name n (k ∷ ks) e = at (same n (tagName k)) refl e (known-name n ks)
     at true q e ih = same-eq n (tagName k) q
     at false q e ih = ih e
 
--- the code of a kind leads back to it
-pub kind-back : (k : Kind) → kindAt (code k) ≡ k
-unfolding kindAt
-kind-back unknown = refl
-kind-back MP = refl
-kind-back P = refl
-kind-back A = refl
-kind-back O = refl
-kind-back S = refl
-kind-back M = refl
-kind-back W = refl
-kind-back R = refl
-kind-back X = refl
-
 kids-known : (K : Kind) → is K unknown ≡ false → kidsOf (code K) ≡ children K
-unfolding kidsOf kindAt
-kids-known unknown e = no e
-kids-known MP e = refl
-kids-known P e = refl
-kids-known A e = refl
-kids-known O e = refl
-kids-known S e = refl
-kids-known M e = refl
-kids-known W e = refl
-kids-known R e = refl
-kids-known X e = refl
+unfolding kidsOf
+kids-known K e = rw (e, kind-back K)
 
 -- the code of the innermost open element says what may stand in it
 pub kids-top : (F : Frame) (st : Stack) → Shape (F ∷ st) → kidsOf (code (F .kind)) ≡ children (F .kind)
@@ -148,14 +117,6 @@ kids-top F st sh = kids-known (F .kind) (known-top F st sh)
 
 -- ---- the outermost element
 
--- it is an MP, if it is known
-pub root-mp : (n : List ℕ) → is (named n (MP ∷ [])) unknown ≡ false → is (named n (MP ∷ [])) MP ≡ true
-root-mp n e = at (same n (bytes "MP")) e
-  where
-    at : (b : Bool) → is (if b MP unknown) unknown ≡ false → is (if b MP unknown) MP ≡ true
-    at true e = refl
-    at false e = no e
-
--- it is all that is open behind its start tag
+-- an MP is all that is open behind its start tag
 pub root-shape : (k : Kind) (i : ℕ) (vs : Slots) → is k MP ≡ true → Shape (frame k i vs ∷ [])
 root-shape k i vs e = rw (is-eq k MP e) top

@@ -1,33 +1,33 @@
 -- PageLaws: a page that is judged to a sheet can be laid out: its tags are fit, they say the sheet, and there is room for what they say.
 -- Assumes nothing.
 use mathlib.Core.Path.{_≡_, refl, sym, ap, _∙_, subst}
-use mathlib.Core.Bool.{Bool, true, false, not, _&&_, _||_}
+use mathlib.Core.Bool.{Bool, true, _||_}
 use mathlib.Core.List.{List, [], _∷_, _++_}
 use Prim.Native.Nat.{ℕ, _+_, _≤_}
 use native.Mathlib.Omega.{arith}
 use lib.Dec.{leb}
 use lib.ListN.{length, length-append}
 use borrow.Author.Tests.{leb-true}
-use Rattle.paper.specs.Lists.{bytes, every, elem, twice, concat, number}
+use Rattle.paper.specs.Lists.{bytes, every, concat, number}
 use Rattle.paper.specs.Grammar.{Attr, Tag, start, end, placed}
-use Rattle.paper.specs.Fields.{Kind, unknown, M, is, Field, fieldsOf, excluded}
+use Rattle.paper.specs.Fields.{Kind, unknown, M, is, fieldsOf}
 use Rattle.paper.specs.Plan.{Slots, Row, Plan, slot}
-use Rattle.paper.specs.Judging.{fault, names, slotsOf, lettersOf, broken, missing, clash, mpVersion, mpOver, mpHalf, own, Frame, Stack, kindIn, misplaced, next, lacks, here, faults, item, rowOf, tail, Sheet, sheet, judge, sheetOf, items}
+use Rattle.paper.specs.Judging.{slotsOf, own, Stack, kindIn, misplaced, next, lacks, here, faults, item, rowOf, tail, Sheet, sheet, judge}
 use Rattle.paper.specs.Layout.{headValues, rowsValues, textOf, planValues}
-use Rattle.paper.specs.Writing.{soundRow, soundHead, sound, needs, goodElement, rowSlots}
-use Rattle.paper.proofs.Small.{both, neither, and-intro}
-use Rattle.paper.proofs.Given.{fault-nil, append-nil-both}
+use Rattle.paper.specs.Writing.{soundRow, soundHead, needs, goodElement, rowSlots}
+use Rattle.paper.proofs.Small.{both, and-intro}
+use Rattle.paper.proofs.Given.{fault-nil, append-nil-both, own-clear}
 use Rattle.paper.proofs.Told.{is-eq, page-placed}
 use Rattle.paper.proofs.Exact.{exact}
-use Rattle.paper.proofs.ReadSound.{Judges, judges, judge-ok}
+use Rattle.paper.proofs.ReadSound.{judges, judge-ok}
 use Rattle.paper.proofs.Rooms.{sheet-weight, text-weight}
 use Rattle.markup.specs.Walk.{tagsAt}
 use Rattle.markup.proofs.Walked.{walked}
+use Rattle.plan.proofs.Shown.{concat-append}
 use Rattle.sheet.specs.Fold.{strange}
 use Rattle.sheet.specs.Content.{kindNamed, wsFrom, rowsFrom, headFrom, contentOf}
-use Rattle.sheet.specs.Laying.{Sound, Fit, Room}
+use Rattle.sheet.specs.Laying.{Sound, Fit}
 use Rattle.sheet.proofs.FoldContent.{kind-in, content-is}
-use Rattle.sheet.proofs.ContentLaws.{concat-append}
 
 -- ---- tags without faults
 
@@ -41,13 +41,7 @@ every-parts p (r ∷ a) b e =
 -- a tag without a fault of its own is sound
 own-sound : (k : Kind) (i : ℕ) (l : List Attr) → own k i l ≡ [] → Sound k l
 unfolding strange
-own-sound k i l e =
-    let fs : List Field = fieldsOf k in
-    let vs : Slots = slotsOf fs l in
-    let (a, e₁) = fault-nil (not (every (λ n. elem n (lettersOf fs)) (names l)) || twice (names l)) 5 i (fault (mpVersion k vs) 6 i ++ (fault (broken fs vs || mpOver k vs) 7 i ++ fault (missing fs vs || clash (excluded k) (names l) || mpHalf k vs) 8 i)) e in
-    let (b, e₂) = fault-nil (mpVersion k vs) 6 i (fault (broken fs vs || mpOver k vs) 7 i ++ fault (missing fs vs || clash (excluded k) (names l) || mpHalf k vs) 8 i) e₁ in
-    let (c, e₃) = fault-nil (broken fs vs || mpOver k vs) 7 i (fault (missing fs vs || clash (excluded k) (names l) || mpHalf k vs) 8 i) e₂ in
-    record { known = a; kept = neither (broken fs vs) (mpOver k vs) c .0 }
+own-sound k i l e = let C = own-clear k i l e in record { known = C .known; kept = C .kept }
 
 -- a sound medication row has at most three W
 few-ws : (k : Kind) (vs : Slots) (ws : List Slots) → is k M ≡ true → every soundRow (rowOf (item k vs ws)) ≡ true → length ws ≤ 3

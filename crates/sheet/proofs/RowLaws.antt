@@ -13,7 +13,7 @@ use Rattle.paper.specs.Lists.{bytes, if, concat, number}
 use Rattle.paper.specs.Grammar.{Attr, Tag, end}
 use Rattle.paper.specs.Grammar as Grammar
 use Rattle.paper.specs.Values.{value}
-use Rattle.paper.specs.Fields.{Kind, M, W, code, is, Field, fieldsOf}
+use Rattle.paper.specs.Fields.{Kind, M, W, code, is, fieldsOf}
 use Rattle.paper.specs.Plan.{Slots, Row, slot}
 use Rattle.paper.specs.Judging.{names, slotsOf, broken, item, rowOf, tail}
 use Rattle.paper.specs.Layout.{Span, spansFrom, rowValues, rowsValues}
@@ -24,15 +24,17 @@ use Rattle.markup.proofs.LaidLaws.{Laying, start, next-piece, all-laid}
 use Rattle.fields.specs.Places.{kindAt, countOf, firstOf, fieldAt, noField, ruleNumber}
 use Rattle.fields.proofs.TableLaws.{kind-back, code-back}
 use Rattle.plan.specs.Numbers.{flat, padded, kindNumber, recordWith, rowNumbers, rowsNumbers}
+use Rattle.plan.proofs.Shown.{concat-append}
 use Rattle.plan.proofs.Spans.{padded-long, record-size}
 use Rattle.plan.proofs.Stores.{laid-long}
 use Rattle.sheet.specs.declared.found.Raw.{Raw}
 use Rattle.sheet.specs.Fold.{strange}
-use Rattle.sheet.specs.Found.{noRaw, Lie, Tells}
+use Rattle.sheet.specs.Found.{noRaw, Lie, Tells, told}
 use Rattle.sheet.specs.Content.{kindNamed, wsFrom, rowsFrom}
-use Rattle.sheet.specs.Laying.{settled, told, Sound, Fit, Room, Lays, givesRow, rowFrom, LaysRow, Fills}
-use Rattle.sheet.proofs.ContentLaws.{Starts, Next, fit-start, rows-start, ws-more, told-slots, told-long, behind, placed-at, told-at, flat-long, concat-append, row-given, row-none, summed}
-use Rattle.sheet.proofs.HeadLaws.{kept-at, short-kept, plain-value}
+use Rattle.sheet.specs.Laying.{settled, Sound, Fit, Room, Lays, givesRow, rowFrom, LaysRow, Fills}
+use Rattle.sheet.proofs.FlawLaws.{told-slots}
+use Rattle.sheet.proofs.ContentLaws.{Starts, Next, fit-start, rows-start, ws-more, told-long, behind, placed-at, told-at, flat-long, row-given, row-none, summed}
+use Rattle.sheet.proofs.HeadLaws.{slots-long, kept-at, short-kept, plain-value}
 
 -- ---- the next start tag
 
@@ -60,7 +62,7 @@ pub tag-told : {w : List ℕ} {at p e : ℕ} (B : Starts w at p e) (f : Fit (tag
 tag-told {w} {at} {p} {e} B f k h {rs} T =
     let q = kind-told (kindNamed (slice (p + 1) e w)) k h in
     let N : Next (kindAt k) (insideAt w e .attrs) (tagsAt w (p + 1)) = subst (λ (x : Kind). Next x (insideAt w e .attrs) (tagsAt w (p + 1))) q (fit-start B f) in
-    record { kind-is = q; slots-are = sym (told-slots w (kindAt k) rs (insideAt w e .attrs) T); lie = T .lie; sound = N .sound; few = N .few; fit = N .fit }
+    record { kind-is = q; slots-are = sym (told-slots T); lie = T .lie; sound = N .sound; few = N .few; fit = N .fit }
 
 -- the rows from a start tag on, by its attributes
 module _ {w : List ℕ} {at p e : ℕ} (B : Starts w at p e) (k : ℕ) (q : kindNamed (slice (p + 1) e w) ≡ kindAt k) where
@@ -162,10 +164,6 @@ pub m-fields : 14 ≤ countOf (kindAt 6)
 unfolding kindAt
 m-fields = omega (arith, m-count)
 
-pub m-told : (w : List ℕ) (rs : List Raw) → told w (kindAt 6) rs ≡ told w M rs
-unfolding kindAt
-m-told w rs = refl
-
 slot-p : (vs : Slots) → slot (bytes "p") (fieldsOf M) vs ≡ getD vs 0 []
 unfolding fieldsOf
 slot-p [] = refl
@@ -206,10 +204,6 @@ tail-short (v ∷ vs) h = omega arith
 
 pub tail-long : (w : List ℕ) (rs : List Raw) → length (tail (told w M rs)) ≡ 13
 tail-long w rs = tail-short (told w M rs) (told-long w M rs ∙ m-count)
-
-slots-long : (fs : List Field) (l : List Attr) → length (slotsOf fs l) ≡ length fs
-slots-long [] l = refl
-slots-long (f ∷ fs) l = ap suc (slots-long fs l)
 
 w-two : (l : List Attr) → length (slotsOf (fieldsOf W) l) ≡ 2
 unfolding fieldsOf

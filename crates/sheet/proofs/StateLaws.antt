@@ -10,20 +10,14 @@ use borrow.Author.Tests.{eqb-true, ne-eqb, leb-false}
 use Rattle.paper.specs.Lists.{if}
 use Rattle.paper.specs.Fields.{Kind, unknown, MP, P, A, O, S, M, W, R, X, code, named}
 use Rattle.paper.proofs.Small.{below-at}
-use Rattle.fields.specs.Places.{kindAt, under}
+use Rattle.fields.specs.Places.{kindAt, rankOf, under}
 use Rattle.fields.proofs.TableLaws.{code-back}
-use Rattle.sheet.specs.Fold as Fold
-use Rattle.sheet.specs.Fold.{St, kidsOf, kindUnder, rankOf, full, barred}
-use Rattle.sheet.proofs.Nesting.{kind-back}
-
--- a number names the same element in the pass and in the table
-same-kind : (c : ℕ) → c < 10 → Fold.kindAt c ≡ kindAt c
-same-kind c h = ap Fold.kindAt (sym (code-back c h)) ∙ kind-back (kindAt c)
+use Rattle.sheet.specs.Fold.{St, kidsOf, kindUnder, full, barred}
 
 -- what may stand in the innermost open element, by the table
 pub kids-under : (c : ℕ) (n : List ℕ) → c < 10 → (c ≡ 0 → ⊥) → kindUnder c n ≡ named n (under c)
 unfolding kindUnder kidsOf under
-kids-under c n h z = rw (ne-eqb c 0 z, ne-eqb c 10 (omega arith), same-kind c h)
+kids-under c n h z = rw (ne-eqb c 0 z, ne-eqb c 10 (omega arith))
 
 -- what may stand outside of all elements
 pub kids-outside : (c : ℕ) (n : List ℕ) → c ≡ 0 → kindUnder c n ≡ named n (under 10)

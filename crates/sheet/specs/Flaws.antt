@@ -13,11 +13,7 @@ use Rattle.paper.specs.Plan.{Slots}
 use Rattle.paper.specs.Judging.{breaks, broken, missing, mpOver, mpHalf}
 use Rattle.fields.specs.Places.{onesOf, othersOf}
 use Rattle.sheet.specs.declared.found.Raw.{Raw}
-use Rattle.sheet.specs.Found.{settledIn, rawsAt, thereAt}
-
--- the slots of an element of kind k whose attributes have these spans in the page w
-unfoldable pub slotsAt : List ℕ → Kind → List Raw → Slots
-slotsAt w k rs = settledIn (fieldsOf k) (rawsAt w (length (fieldsOf k)) rs)
+use Rattle.sheet.specs.Found.{thereAt}
 
 -- the value that counts under a rule
 abbrev pub settleBy : Rule → List ℕ → List ℕ

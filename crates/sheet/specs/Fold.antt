@@ -10,6 +10,7 @@ use Rattle.paper.specs.Grammar.{Attr, Tag, start, end}
 use Rattle.paper.specs.Fields.{Kind, unknown, MP, P, A, O, S, M, W, R, X, code, is, fieldsOf, excluded, named, children}
 use Rattle.paper.specs.Plan.{Slots, slot}
 use Rattle.paper.specs.Judging.{Fault, names, slotsOf, lettersOf, broken, missing, clash, mpVersion, mpOver, mpHalf, lower, Sheet, Judged, refused, sheet}
+use Rattle.fields.specs.Places.{kindAt, rankOf}
 
 -- a fault by its number and its place
 abbrev pub given : ℕ → ℕ → Fault
@@ -42,10 +43,6 @@ pub record St : Type 0 where
 abbrev pub outside : St
 outside = record { cur = 0; rank = 0; hasP = false; hasA = false; ws = 0; waits = false; from = 0; root = 0; best = spotless }
 
--- the kind with that code
-unfoldable pub kindAt : ℕ → Kind
-kindAt c = if (eqb c 1) MP (if (eqb c 2) P (if (eqb c 3) A (if (eqb c 4) O (if (eqb c 5) S (if (eqb c 6) M (if (eqb c 7) W (if (eqb c 8) R (if (eqb c 9) X unknown))))))))
-
 -- what the element with that code may hold; "the outermost element must be MP"
 unfoldable pub kidsOf : ℕ → List Kind
 kidsOf c = if (eqb c 0) (MP ∷ []) (children (kindAt c))
@@ -57,19 +54,6 @@ kindUnder c n = named n (kidsOf c)
 -- the code of the element around: known elements stand in one kind of element only
 unfoldable pub parent : ℕ → ℕ
 parent c = if (leb c 1) 0 (if (leb c 5) 1 (if (eqb c 7) 6 5))
-
--- the place of a kind in the order inside MP, 0 elsewhere
-abbrev pub rankOf : Kind → ℕ
-rankOf unknown = 0
-rankOf MP = 0
-rankOf P = 1
-rankOf A = 2
-rankOf O = 3
-rankOf S = 4
-rankOf M = 0
-rankOf W = 0
-rankOf R = 0
-rankOf X = 0
 
 -- misplaced or too many: a P, A or O after one of its own or a later kind, a fourth W
 unfoldable pub full : St → Kind → Bool

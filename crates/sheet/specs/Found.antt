@@ -53,6 +53,10 @@ rawsAt w zero rs = []
 rawsAt w (suc n) [] = [] ∷ rawsAt w n []
 rawsAt w (suc n) (r ∷ rs) = shownBy w r ∷ rawsAt w n rs
 
+-- the slots of an element of kind k whose attributes have these spans in the page w
+unfoldable pub told : List ℕ → Kind → List Raw → Slots
+told w k rs = settledIn (fieldsOf k) (rawsAt w (length (fieldsOf k)) rs)
+
 -- which of the first n spans are there
 abbrev pub thereAt : ℕ → List Raw → List Bool
 thereAt zero rs = []

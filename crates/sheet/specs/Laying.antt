@@ -7,11 +7,10 @@ use mathlib.Core.List.{List, [], _∷_}
 use Prim.Native.Nat.{ℕ, zero, suc, _+_, _*_, _≤_}
 use lib.Dec.{eqb}
 use lib.ListN.{length, drop, getD}
-use lib.Seq.{slice}
 use Rattle.paper.specs.Lists.{bytes, if, concat, number}
 use Rattle.paper.specs.Grammar.{Attr, Tag, start, end}
 use Rattle.paper.specs.Values.{value}
-use Rattle.paper.specs.Fields.{Kind, M, R, S, X, is, Field, fieldsOf}
+use Rattle.paper.specs.Fields.{Kind, M, R, S, X, is, fieldsOf}
 use Rattle.paper.specs.Rules.{settle}
 use Rattle.paper.specs.Plan.{Slots, Head, Row, slot}
 use Rattle.paper.specs.Judging.{names, slotsOf, broken, allEmpty, tail}
@@ -20,7 +19,6 @@ use Rattle.markup.specs.Laid.{laid}
 use Rattle.fields.specs.Places.{fieldAt}
 use Rattle.plan.specs.Numbers.{flat, rowNumbers, rowsNumbers, headSpans}
 use Rattle.plan.specs.declared.Span as Code
-use Rattle.sheet.specs.declared.found.Raw.{Raw}
 use Rattle.sheet.specs.Fold.{strange}
 use Rattle.sheet.specs.Content.{kindNamed, wsFrom}
 
@@ -29,16 +27,6 @@ use Rattle.sheet.specs.Content.{kindNamed, wsFrom}
 -- the value that counts of the field at that place of the table, from its raw bytes
 unfoldable pub settled : ℕ → List ℕ → List ℕ
 settled id r = settle (fieldAt id) (value r)
-
--- the values that count of some fields, from their spans in the page
-abbrev pub toldIn : List ℕ → List Field → List Raw → Slots
-toldIn w [] rs = []
-toldIn w (f ∷ fs) [] = settle f [] ∷ toldIn w fs []
-toldIn w (f ∷ fs) (r ∷ rs) = settle f (value (slice (r .at) (r .end) w)) ∷ toldIn w fs rs
-
--- the slots of an element, from the spans of its fields in the page
-unfoldable pub told : List ℕ → Kind → List Raw → Slots
-told w k rs = toldIn w (fieldsOf k) rs
 
 -- ---- a page that can be laid out
 

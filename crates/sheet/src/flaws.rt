@@ -12,8 +12,8 @@ ghost use Rattle.paper.specs.Judging.{names, slotsOf, broken, mpVersion};
 ghost use Rattle.fields.specs.Places.{kindAt, ruleAt, fieldAt};
 ghost use Rattle.fields.specs.Columns.{ruleColumn, leastColumn, mostColumn, tildeColumn, mustColumn};
 ghost use Rattle.sheet.specs.Fold.{flaw, needsW};
-ghost use Rattle.sheet.specs.Found.{shownBy, Tells};
-ghost use Rattle.sheet.specs.Flaws.{slotsAt, settleBy, fieldFlaw, fieldsFlaw, pagesFlaw, digitsFlaw, clashAt};
+ghost use Rattle.sheet.specs.Found.{shownBy, told, Tells};
+ghost use Rattle.sheet.specs.Flaws.{settleBy, fieldFlaw, fieldsFlaw, pagesFlaw, digitsFlaw, clashAt};
 use crate::found::Raw;
 use fields::dose::is_zero;
 use fields::lookup::count_of;
@@ -137,7 +137,7 @@ fn fields_flaw(
 ) -> u8
     requires { ⌜ (length (now page) ≤ length (now scratch)) × (kind < 10) × (now rules ≡ ruleColumn) × (now leasts ≡ leastColumn) × (now mosts ≡ mostColumn)
         × (now tildes ≡ tildeColumn) × (now musts ≡ mustColumn) ⌝ }
-    ensures { λ r. ⌜ r ≡ fieldsFlaw 9 (fieldsOf (kindAt kind)) (slotsAt (now (page .entry)) (kindAt kind) raws) ⌝ }
+    ensures { λ r. ⌜ r ≡ fieldsFlaw 9 (fieldsOf (kindAt kind)) (told (now (page .entry)) (kindAt kind) raws) ⌝ }
 {
     let first = first_of(kind);
     let count = count_of(kind);
@@ -172,7 +172,7 @@ fn fields_flaw(
 // Whether an element is MP and its v is not the edition 027.
 fn edition_differs(page: &[u8], kind: u8, raws: [Raw; 16], scratch: &mut [u8]) -> bool
     requires { ⌜ (length (now page) ≤ length (now scratch)) × (kind < 10) ⌝ }
-    ensures { λ r. ⌜ r ≡ mpVersion (kindAt kind) (slotsAt (now (page .entry)) (kindAt kind) raws) ⌝ }
+    ensures { λ r. ⌜ r ≡ mpVersion (kindAt kind) (told (now (page .entry)) (kindAt kind) raws) ⌝ }
 {
     if kind != PLAN {
         return false;
@@ -205,8 +205,8 @@ fn digits_flaw(a: u8, z: u8) -> u8
 
 // The fault of MP's a and z, where each keeps its field: 7 if a is above z, 8 if one stands without the other, else 9.
 fn pages_flaw(page: &[u8], kind: u8, raws: [Raw; 16], scratch: &mut [u8]) -> u8
-    requires { ⌜ (length (now page) ≤ length (now scratch)) × (kind < 10) × (broken (fieldsOf (kindAt kind)) (slotsAt (now page) (kindAt kind) raws) ≡ false) ⌝ }
-    ensures { λ r. ⌜ r ≡ pagesFlaw (kindAt kind) (slotsAt (now (page .entry)) (kindAt kind) raws) ⌝ }
+    requires { ⌜ (length (now page) ≤ length (now scratch)) × (kind < 10) × (broken (fieldsOf (kindAt kind)) (told (now page) (kindAt kind) raws) ≡ false) ⌝ }
+    ensures { λ r. ⌜ r ≡ pagesFlaw (kindAt kind) (told (now (page .entry)) (kindAt kind) raws) ⌝ }
 {
     if kind != PLAN {
         return 9;

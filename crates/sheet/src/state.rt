@@ -8,8 +8,8 @@ ghost use Rattle.paper.specs.Lists.{if};
 ghost use Rattle.paper.specs.Fields.{code, fieldsOf};
 ghost use Rattle.paper.specs.Grammar.{Attr};
 ghost use Rattle.paper.specs.Judging.{names, slotsOf, lower};
-ghost use Rattle.fields.specs.Places.{kindAt};
-ghost use Rattle.sheet.specs.Fold.{outside, kindUnder, parent, rankOf, barred, flaw, needsW, opened, closed, finished};
+ghost use Rattle.fields.specs.Places.{kindAt, rankOf};
+ghost use Rattle.sheet.specs.Fold.{outside, kindUnder, parent, barred, flaw, needsW, opened, closed, finished};
 ghost use Rattle.sheet.specs.Judged.{faultOf, stOf, Sound, left};
 use fields::lookup::child;
 

@@ -6,14 +6,14 @@ use mathlib.Core.List.{List, [], _∷_, map}
 use Prim.Native.Nat.{ℕ, zero, suc, _+_, _*_, _-_, _≤_, _<_}
 use native.Mathlib.Numerals.{add-one}
 use native.Mathlib.Omega.{arith}
-use lib.Dec.{eqb, leb, ltb}
-use lib.ListN.{length, take, drop, getD, length-drop, length-map, drop-of-length-le}
+use lib.Dec.{eqb, ltb}
+use lib.ListN.{length, take, drop, getD, length-map, drop-of-length-le}
 use lib.Seq.{drop-cons}
-use borrow.Author.Tests.{eq-eqb, ne-eqb, leb-true, ltb-true}
+use borrow.Author.Tests.{eq-eqb, ne-eqb, ltb-true}
 use Rattle.paper.specs.Lists.{if, same, isEmpty, elem, twice, every}
 use Rattle.paper.specs.Fields.{Kind, Field, Pair, table, fieldsOf, excluded}
 use Rattle.paper.specs.Plan.{Slots, namesOf}
-use Rattle.paper.specs.Judging.{lettersOf, missing, clash, allEmpty}
+use Rattle.paper.specs.Judging.{lettersOf, missing, clash}
 use Rattle.paper.specs.Layout.{Span, shown, shownAll}
 use Rattle.paper.specs.Writing.{goodSlot, goodSlots, goodElement}
 use Rattle.paper.proofs.Small.{both, neither, no-not, below-at, same-eq}
@@ -21,6 +21,7 @@ use Rattle.fields.specs.Places.{kindAt, noField, fieldAt, placeIn, firstOf, cou
 use Rattle.fields.proofs.TableLaws.{part-of-table}
 use Rattle.fields.proofs.ColumnLaws.{part-within}
 use Rattle.plan.specs.Numbers.{spanIn, spansIn, absent, within}
+use Rattle.plan.proofs.Doses.{shows}
 use Rattle.sound.specs.Judged.{fineSpan, fineFrom, there, clashThere, clashAt, fineElement, absentFrom}
 
 -- a test beside one that fails
@@ -89,21 +90,6 @@ absent-start l n j = let f : n - 0 ≡ n = omega arith in let g : j + 0 ≡ j = 
 
 -- ---- the fields together
 
--- a value within the text is absent just when its span is
-pub shown-empty : (t : List ℕ) (s : Span) → within (length t) s ≡ true → isEmpty (shown t s) ≡ absent s
-shown-empty t s e = go (s .len) (s .at) e
-  where
-    some : (n : ℕ) (v : List ℕ) → 0 < length v → isEmpty (take (suc n) v) ≡ false
-    some n [] h = absurd (omega arith)
-    some n (x ∷ v) h = refl
-
-    go : (n a : ℕ) → eqb n 0 || leb (a + n) (length t) ≡ true → isEmpty (take n (drop a t)) ≡ eqb n 0
-    go zero a e = refl
-    go (suc n) a e =
-        let z : eqb (suc n) 0 ≡ false = ne-eqb (suc n) 0 (λ q. omega arith) in
-        let h = leb-true (a + suc n) (length t) (rw z at e) in
-        some n (drop a t) (omega (arith, length-drop a t)) ∙ sym z
-
 -- the tests of one span and of those behind it, in the order of the definitions
 sorted : (w g m W G M : Bool) → (w && (g && not m)) && (W && (G && not M)) ≡ (w && W) && ((g && G) && not (m || M))
 sorted true true true true true M = refl
@@ -121,7 +107,7 @@ span-shown t f s = go (within (length t) s) refl
   where
     go : (w : Bool) → within (length t) s ≡ w
         → (w && (goodSlot f (shown t s) && not (f .must && absent s))) ≡ (w && (goodSlot f (shown t s) && not (f .must && isEmpty (shown t s))))
-    go true e = rw (shown-empty t s e)
+    go true e = rw (shows t s e)
     go false e = refl
 
 next-field : (fs : List Field) (first n : ℕ) → first < length fs → take (suc n) (drop first fs) ≡ getD fs first noField ∷ take n (drop (suc first) fs)
@@ -298,7 +284,7 @@ shown-there t l zero j a e h = absurd (omega arith)
 shown-there t l (suc n) j zero e h =
     let (x, y) = both (within (length t) (spanIn l j)) (every (within (length t)) (spansIn n (suc j) l)) e in
     let q : 3 + 2 * j ≡ 2 + 2 * j + (2 * 0 + 1) = omega arith in
-    ap not (shown-empty t (spanIn l j) x) ∙ ap (λ (m : ℕ). not (eqb (getD l m 0) 0)) q
+    ap not (shows t (spanIn l j) x) ∙ ap (λ (m : ℕ). not (eqb (getD l m 0) 0)) q
 shown-there t l (suc n) j (suc a) e h =
     let (x, y) = both (within (length t) (spanIn l j)) (every (within (length t)) (spansIn n (suc j) l)) e in
     let q : 2 + 2 * suc j + (2 * a + 1) ≡ 2 + 2 * j + (2 * suc a + 1) = omega arith in
@@ -364,25 +350,7 @@ module _ (l : List ℕ) where
       and-then true b c = refl
       and-then false b c = refl
 
-  front-shown : (t : List ℕ) (m n j : ℕ) → n ≤ m → take n (shownAll t (spansIn m j l)) ≡ shownAll t (spansIn n j l)
-  unfolding spansIn
-  front-shown t m zero j h = refl
-  front-shown t zero (suc n) j h = absurd (omega arith)
-  front-shown t (suc m) (suc n) j h = ap (λ (r : Slots). shown t (spanIn l j) ∷ r) (front-shown t m n (suc j) (omega arith))
-
-  -- the values of n spans behind the first i
-  pub part-shown : (t : List ℕ) (m i n j : ℕ) → i + n ≤ m → take n (drop i (shownAll t (spansIn m j l))) ≡ shownAll t (spansIn n (j + i) l)
-  unfolding spansIn
-  part-shown t m zero n j h = let f : j + 0 ≡ j = omega arith in rw f (front-shown t m n j (omega arith))
-  part-shown t zero (suc i) n j h = absurd (omega arith)
-  part-shown t (suc m) (suc i) n j h = let f : suc j + i ≡ j + suc i = omega arith in rw (← f) (part-shown t m i n (suc j) (omega arith))
-
 -- spans that are absent lie within any text
 pub absent-within : (n : ℕ) (ss : List Span) → every absent ss ≡ true → every (within n) ss ≡ true
 absent-within n [] e = refl
 absent-within n (s ∷ ss) e = let (a, b) = both (absent s) (every absent ss) e in rw (a, absent-within n ss b)
-
--- spans within the text are absent just when all their values are
-pub all-empty : (t : List ℕ) (ss : List Span) → every (within (length t)) ss ≡ true → allEmpty (shownAll t ss) ≡ every absent ss
-all-empty t [] e = refl
-all-empty t (s ∷ ss) e = let (a, b) = both (within (length t) s) (every (within (length t)) ss) e in rw (shown-empty t s a, all-empty t ss b)

@@ -2,12 +2,11 @@
 -- Assumes nothing.
 use mathlib.Core.Path.{_≡_, refl, sym, ap, _∙_}
 use mathlib.Core.Bool.{Bool, true, false, not, _&&_, _||_}
-use mathlib.Core.List.{List, [], _∷_, map, append-nil}
+use mathlib.Core.List.{List, [], _∷_, map}
 use Prim.Native.Nat.{ℕ, zero, suc, _+_, _*_, _≤_, _<_}
-use native.Mathlib.Numerals.{add-one}
 use native.Mathlib.Omega.{arith}
 use lib.Dec.{leb}
-use lib.ListN.{length, take, drop, getD, set, drop-of-length-le}
+use lib.ListN.{length, take, drop, getD}
 use borrow.Author.Tests.{leb-true, lt-leb, le-leb}
 use Rattle.paper.specs.Lists.{isEmpty, every}
 use Rattle.paper.specs.Fields.{MP, P, A, O, edition, Field, table, fieldsOf}
@@ -16,35 +15,14 @@ use Rattle.paper.specs.Judging.{missing}
 use Rattle.paper.specs.Layout.{Span, shown, shownAll}
 use Rattle.paper.specs.Writing.{decimal, goodSlot, goodSlots, goodElement, soundHead}
 use Rattle.paper.proofs.Small.{both, below-at}
-use Rattle.markup.proofs.LaidLaws.{Laying, told, next-byte, all-laid}
 use Rattle.fields.specs.Places.{kindAt, fieldAt, countOf}
 use Rattle.plan.specs.Numbers.{spanIn, spansIn, paperSpan, flat, absent, within, headWith, headInText, showHead}
-use Rattle.plan.specs.declared.Span as Code
 use Rattle.plan.specs.declared.Plan.{Plan}
+use Rattle.plan.proofs.Spans.{flat-long, part-shown}
+use Rattle.plan.proofs.Doses.{shows}
 use Rattle.sound.specs.Sound.{headSound}
 use Rattle.sound.specs.Judged.{fineFrom, fineElement, fineHead}
-use Rattle.sound.proofs.ElementLaws.{and-no, fields-are, every-parts, part-shown, shown-empty}
-
--- ---- the numbers are laid span by span
-
--- a span's two numbers are stored
-pub numbers-turn : {numbers₀ numbers : List ℕ} (head : List Code.Span) (j : ℕ) (x : Code.Span) → j < 27 → length numbers₀ ≡ 56 → drop j head ≡ x ∷ drop (suc j) head
-    → Laying numbers₀ numbers 2 (2 * j + 2) (flat (map paperSpan head)) (flat (map paperSpan (drop j head)))
-    → Laying numbers₀ (set (set numbers (2 * j + 2) (x .at)) (2 * j + 3) (x .len)) 2 (2 * (j + 1) + 2) (flat (map paperSpan head)) (flat (map paperSpan (drop (j + 1) head)))
-numbers-turn head j x h l e L =
-    let f : 2 * (j + 1) + 2 ≡ 2 * j + 2 + 1 + 1 = omega arith in
-    let g : 2 * j + 3 ≡ 2 * j + 2 + 1 = omega arith in
-    rw (f, g, add-one j) (next-byte (next-byte (told L (ap (λ (r : List Code.Span). flat (map paperSpan r)) e)) (omega arith)) (omega arith))
-
--- all of them are stored, behind two that are 0
-pub numbers-done : {numbers₀ numbers : List ℕ} (head : List Code.Span) (j : ℕ) → 27 ≤ j → j ≤ 27 → length head ≡ 27 → length numbers₀ ≡ 56 → take 2 numbers₀ ≡ 0 ∷ 0 ∷ []
-    → Laying numbers₀ numbers 2 (2 * j + 2) (flat (map paperSpan head)) (flat (map paperSpan (drop j head))) → numbers ≡ 0 ∷ 0 ∷ flat (map paperSpan head)
-numbers-done {numbers₀} {numbers} head j h k l m z L =
-    let all : List ℕ = flat (map paperSpan head) in
-    let none : drop j head ≡ [] = drop-of-length-le head {i = j} (omega arith) in
-    let D = all-laid (omega arith) (told L (ap (λ (r : List Code.Span). flat (map paperSpan r)) none)) in
-    let behind : drop (2 + length all) numbers₀ ≡ [] = drop-of-length-le numbers₀ {i = 2 + length all} (omega (arith, D .0)) in
-    D .1 ∙ rw (z, behind) (ap (λ (r : List ℕ). 0 ∷ 0 ∷ r) (append-nil all))
+use Rattle.sound.proofs.ElementLaws.{and-no, fields-are, every-parts}
 
 -- ---- the spans are found again among their numbers
 
@@ -63,11 +41,6 @@ spans-back : (ss : List Span) → spansIn (length ss) 0 (0 ∷ 0 ∷ flat ss) �
 unfolding spansIn
 spans-back [] = refl
 spans-back (s ∷ ss) = ap (λ (r : List Span). s ∷ r) (shift (length ss) 0 (s .at) (s .len) (flat ss) ∙ spans-back ss)
-
--- two numbers to a span
-flat-long : (ss : List Span) → length (flat ss) ≡ 2 * length ss
-flat-long [] = refl
-flat-long (s ∷ ss) = omega (arith, flat-long ss)
 
 -- ---- MP
 
@@ -144,7 +117,7 @@ head-at t l n =
     (arranged (leb n 99) (not (isEmpty v)) m gp ga go a b c d
     ∙ retold (leb n 99) (not (isEmpty v)) (not (absent (spanIn l 1))) m m′ a ((b && gp) && ((c && ga) && (d && go)))
     (λ z. mp-is (decimal n) u v (let k = leb-true n 99 z in patch-good n (omega arith)))
-    (λ z. ap not (shown-empty t (spanIn l 1) (second-within w l z))))
+    (λ z. ap not (shows t (spanIn l 1) (second-within w l z))))
 
 -- how many fields P, A and O have
 pub head-counts : (countOf (kindAt 2) ≡ 8) × (countOf (kindAt 3) ≡ 10) × (countOf (kindAt 4) ≡ 7)

@@ -8,59 +8,33 @@ use native.Mathlib.Omega.{arith}
 use lib.Dec.{eqb, leb}
 use lib.ListN.{length, take, drop, getD}
 use lib.Seq.{drop-drop}
-use borrow.Author.Tests.{eqb-true, eqb-false, leb-true}
+use borrow.Author.Tests.{leb-true}
 use Rattle.paper.specs.Lists.{if, isEmpty, every}
 use Rattle.paper.specs.Fields.{Kind, unknown, S, M, W, R, X, is, Field, table, fieldsOf, excluded}
 use Rattle.paper.specs.Plan.{Slots, namesOf}
 use Rattle.paper.specs.Judging.{missing, clash, allEmpty}
 use Rattle.paper.specs.Layout.{Span, shown, shownAll}
 use Rattle.paper.specs.Writing.{decimal, goodSlot, goodSlots, goodElement, noneOf, soundRow}
-use Rattle.paper.proofs.Small.{no, both}
+use Rattle.paper.proofs.Small.{no, both, below-at}
 use Rattle.fields.specs.Places.{kindAt, fieldAt, countOf}
 use Rattle.plan.specs.Numbers.{recordAt, spanIn, spansIn, spansOf, kindShown, hasSpans, toLast, rowWith, showRow, absent, within, inText, knownKind, spareAbsent}
-use Rattle.plan.specs.Records.{paperKind, codeKind}
+use Rattle.plan.proofs.Spans.{part-shown}
+use Rattle.plan.proofs.Shown.{unknown-shown}
+use Rattle.plan.proofs.Doses.{shows, all-empty}
 use Rattle.sound.specs.Sound.{recordSound, firstBadIn}
 use Rattle.sound.specs.Judged.{fineFrom, there, clashAt, fineElement, absentFrom, finePlain, lastW, fineWs, lacking, fineMedication}
 use Rattle.sound.proofs.ValueLaws.{decimal-empty}
-use Rattle.sound.proofs.ElementLaws.{and-no, fields-are, every-parts, part-shown, shown-empty, shown-long, shown-there, clash-is, absent-within, all-empty}
+use Rattle.sound.proofs.ElementLaws.{and-no, fields-are, every-parts, shown-long, shown-there, clash-is, absent-within}
 
 -- ---- a record by its kind
 
-kind-told : (a b c d : Bool) → paperKind (codeKind (if a S (if b M (if c R (if d X unknown))))) ≡ if a S (if b M (if c R (if d X unknown)))
-kind-told true b c d = refl
-kind-told false true c d = refl
-kind-told false false true d = refl
-kind-told false false false true = refl
-kind-told false false false false = refl
-
--- the kind that a number shows is told by the code's
-pub kind-is : (n : ℕ) → kindShown n ≡ paperKind (codeKind (kindShown n))
-kind-is n = sym (kind-told (eqb n 1) (eqb n 2) (eqb n 3) (eqb n 4))
-
 -- a number stands for a kind just when it shows one
 known-is : (n : ℕ) → knownKind n ≡ not (is (kindShown n) unknown)
-known-is n = go (eqb n 1) refl (eqb n 2) refl (eqb n 3) refl (eqb n 4) refl
+known-is n = at (knownKind n) refl
   where
-    beyond : (leb 1 n ≡ true → n ≤ 4 → ⊥) → knownKind n ≡ false
-    beyond f = at (leb 1 n) refl (leb n 4) refl
-      where
-        at : (a : Bool) → leb 1 n ≡ a → (b : Bool) → leb n 4 ≡ b → (a && b) ≡ false
-        at true e true g = absurd (f e (leb-true n 4 g))
-        at true e false g = refl
-        at false e b g = refl
-
-    go : (a : Bool) → eqb n 1 ≡ a → (b : Bool) → eqb n 2 ≡ b → (c : Bool) → eqb n 3 ≡ c → (d : Bool) → eqb n 4 ≡ d
-        → knownKind n ≡ not (is (if a S (if b M (if c R (if d X unknown)))) unknown)
-    go true e b f c g d h = rw (eqb-true n 1 e)
-    go false e true f c g d h = rw (eqb-true n 2 f)
-    go false e false f true g d h = rw (eqb-true n 3 g)
-    go false e false f false g true h = rw (eqb-true n 4 h)
-    go false e false f false g false h =
-        let w = eqb-false n 1 e in
-        let x = eqb-false n 2 f in
-        let y = eqb-false n 3 g in
-        let z = eqb-false n 4 h in
-        beyond (λ u v. let q = leb-true 1 n u in omega arith)
+    at : (b : Bool) → knownKind n ≡ b → b ≡ not (is (kindShown n) unknown)
+    at true e = let h = leb-true n 4 (both (leb 1 n) (leb n 4) e .1) in sym (rw e at (below-at 5 (λ (k : ℕ). if (knownKind k) (not (is (kindShown k) unknown)) true) refl n (omega arith)))
+    at false e = rw (unknown-shown n e)
 
 -- a record that shows a row of that kind
 abbrev byKind : List ℕ → List ℕ → Kind → Bool
@@ -349,7 +323,7 @@ module _ (t l : List ℕ) where
 
   first-inside : ownIn ≡ true → isEmpty (shown t (spanIn l 0)) ≡ absent (spanIn l 0)
   unfolding spansIn
-  first-inside e = shown-empty t (spanIn l 0) (both (within (length t) (spanIn l 0)) (every (within (length t)) (spansIn 12 1 l)) e .0)
+  first-inside e = shows t (spanIn l 0) (both (within (length t) (spanIn l 0)) (every (within (length t)) (spansIn 12 1 l)) e .0)
 
   lacks-is : ownIn ≡ true → noneOf (shownWs t l) ≡ eqb (lastW l) 0 → (noneOf (shownWs t l) && (isEmpty digits && isEmpty (shown t (spanIn l 0)))) ≡ lacking (lastW l) l
   unfolding lacking

@@ -4,16 +4,16 @@ use mathlib.Core.Path.{_≡_, refl, sym, ap, _∙_}
 use mathlib.Core.Bool.{Bool, true, false, _&&_}
 use mathlib.Core.Logic.{_↔_}
 use mathlib.Core.List.{List}
-use Prim.Native.Nat.{ℕ, zero, suc, _+_, _*_, _<_}
+use Prim.Native.Nat.{ℕ, zero, suc, _<_}
 use native.Mathlib.Nat.{le-of-suc-le-suc, not-suc-le-zero}
 use native.Mathlib.Omega.{arith}
 use lib.ListN.{take, drop}
-use lib.Seq.{drop-drop}
 use Rattle.paper.specs.Lists.{if, every}
 use Rattle.paper.specs.Writing.{soundHead, soundRow, sound}
 use Rattle.paper.proofs.Small.{both, no}
 use Rattle.plan.specs.Numbers.{recordAt, showHead, showRow, showRows, showPlan, headInText, fitRecord}
 use Rattle.plan.specs.declared.Plan.{Plan}
+use Rattle.plan.proofs.Stores.{records-behind}
 use Rattle.sound.specs.Sound.{headSound, recordSound, recordsSound, firstBadIn, numbersSound}
 
 -- counted from 1 or above, no row is the first bad one just when all are sound
@@ -36,8 +36,7 @@ each-sound t zero rows i h e = absurd (not-suc-le-zero h)
 each-sound t (suc n) rows zero h e = both (recordSound t (take 48 rows)) (recordsSound t n (drop 48 rows)) e .0
 each-sound t (suc n) rows (suc i) h e =
     let (a, b) = both (recordSound t (take 48 rows)) (recordsSound t n (drop 48 rows)) e in
-    let q : 48 + i * 48 ≡ suc i * 48 = omega arith in
-    ap (λ (l : List ℕ). recordSound t (take 48 l)) (sym (drop-drop (i * 48) 48 rows ∙ ap (λ (k : ℕ). drop k rows) q)) ∙ each-sound t n (drop 48 rows) i (le-of-suc-le-suc h) b
+    ap (λ (l : List ℕ). recordSound t (take 48 l)) (sym (records-behind i rows)) ∙ each-sound t n (drop 48 rows) i (le-of-suc-le-suc h) b
 
 -- a sound record shows a sound row
 pub row-shown : (t l : List ℕ) → recordSound t l ≡ true → soundRow (showRow t l) ≡ true

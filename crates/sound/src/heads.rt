@@ -1,14 +1,11 @@
-// Heads: the spans of a head as numbers, and whether they are those of a sound head.
+// Heads: whether the spans of a head, as numbers, are those of a sound head.
 ghost use mathlib.Core.Path.{_≡_};
-ghost use mathlib.Core.List.{_∷_, map};
 ghost use Prim.Native.Nat.{_≤_};
 ghost use lib.ListN.{length};
 ghost use Rattle.fields.specs.Columns.{ruleColumn, leastColumn, mostColumn, tildeColumn, mustColumn};
-ghost use Rattle.plan.specs.Numbers.{paperSpan, flat};
 ghost use Rattle.sound.specs.Judged.{fineHead};
 use crate::elements::fine_element;
 use crate::elements::fine_fields;
-use plan::Span;
 
 // The numbers of the elements P, A and O.
 const PERSON: u8 = 2;
@@ -19,21 +16,6 @@ const MEASURES: u8 = 4;
 
 // The place of MP.U in the table; MP.l stands behind it.
 const IDENT: usize = 2;
-
-// The spans of the head as numbers, two to a span, behind two that are 0: span j at number 2 + 2 * j, as in a row's record.
-pub fn head_numbers(head: [Span; 27]) -> [u32; 56]
-    ensures { λ r. ⌜ r ≡ 0 ∷ 0 ∷ flat (map paperSpan head) ⌝ }
-{
-    let mut numbers = [0u32; 56];
-    let mut j = 0;
-    while j < 27 {
-        let s = head[j];
-        numbers[2 * j + 2] = s.at;
-        numbers[2 * j + 3] = s.len;
-        j += 1;
-    }
-    numbers
-}
 
 // Whether l is present, and U, l, P, A and O are fine.
 pub fn fine_head(

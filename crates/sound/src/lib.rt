@@ -2,10 +2,9 @@
 //
 // The contracts cite specs/Sound.antt. A value is judged in `values`, an element's fields in `elements`, a head in `heads`, a row's record in `records`.
 ghost use mathlib.Core.Path.{_≡_};
-ghost use Prim.Native.Nat.{_+_, _*_, _≤_};
+ghost use Prim.Native.Nat.{_*_, _≤_};
 ghost use lib.ListN.{length};
-ghost use Rattle.plan.specs.Numbers.{recordAt};
-ghost use Rattle.sound.specs.Sound.{headSound, recordSound, firstBadIn};
+ghost use Rattle.sound.specs.Sound.{headSound, firstBadIn};
 
 pub mod elements;
 pub mod heads;
@@ -13,7 +12,6 @@ pub mod records;
 pub mod values;
 
 use crate::heads::fine_head;
-use crate::heads::head_numbers;
 use crate::records::record_sound;
 use fields::lookup::leasts;
 use fields::lookup::mosts;
@@ -21,6 +19,7 @@ use fields::lookup::musts;
 use fields::lookup::rules;
 use fields::lookup::tildes;
 use plan::Plan;
+use plan::head_numbers;
 
 // Whether a plan's head, as numbers, is sound.
 pub fn head_sound(plan: Plan, text: &[u8]) -> bool
@@ -37,29 +36,6 @@ pub fn head_sound(plan: Plan, text: &[u8]) -> bool
     let tildes = tildes();
     let musts = musts();
     fine_head(&numbers, text, &rules, &leasts, &mosts, &tildes, &musts)
-}
-
-// Whether row i, counted from 0, is sound.
-pub fn row_sound(rows: &[u32], i: usize, text: &[u8]) -> bool
-    requires { ⌜ (i + 1) * 48 ≤ length (now rows) ⌝ }
-    ensures { λ r. ⌜ r ≡ recordSound (now (text .entry)) (recordAt (now (rows .entry)) i) ⌝ }
-{
-    let rules = rules();
-    let leasts = leasts();
-    let mosts = mosts();
-    let tildes = tildes();
-    let musts = musts();
-    let at = i * Plan::STRIDE;
-    let end = at + Plan::STRIDE;
-    record_sound(
-        &rows[at..end],
-        text,
-        &rules,
-        &leasts,
-        &mosts,
-        &tildes,
-        &musts,
-    )
 }
 
 // The first of the first n rows that is bad, counted from 1; 0 if none is.

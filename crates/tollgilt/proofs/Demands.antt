@@ -14,6 +14,7 @@ use borrow.Author.Tests.{le-leb}
 use Rattle.paper.specs.Lists.{concat}
 use Rattle.paper.specs.Plan as Said
 use Rattle.paper.specs.Reading as Paper
+use Rattle.paper.specs.Reading.{numbers}
 use Rattle.paper.specs.Writing as Spelled
 use Rattle.paper.specs.Writing.{Written, tooLong, written, sound, fresh}
 use Rattle.paper.specs.Cuts.{Cut, Cut≤}
@@ -27,10 +28,9 @@ use Rattle.paper.proofs.ReadSound.{read-sound}
 use Rattle.paper.proofs.Writer as Writer
 use Rattle.paper.proofs.Writer.{FirstUncut}
 use Rattle.markup.specs.Laid.{laid}
-use Rattle.plan.specs.Numbers.{showPlan, planRows}
+use Rattle.plan.specs.Numbers.{rowsLent, showPlan, planRows}
 use Rattle.plan.proofs.Shown.{sound-back}
-use Rattle.reader.specs.Answers.{numbers, numbersOf}
-use Rattle.reader.specs.Lent.{rowsLent}
+use Rattle.reader.specs.Answers.{numbersOf}
 use Rattle.reader.specs.Promise as Reads
 use Rattle.reader.specs.declared.answer.Answer.the-variants.{Plan}
 use Rattle.reader.specs.declared.reading.Reading.{Reading}

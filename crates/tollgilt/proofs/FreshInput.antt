@@ -64,18 +64,17 @@ refusal-lines (refusal n k i) r e h = ap (λ (t : Fresh). refusalLines (t .numbe
 refusal-lines (pages f) r e h = absurd (h (ap (λ (t : Fresh). t .number) e))
 
 -- the pages of the input, written afresh into a room
-module _ (out input room₀ b ss ns : List ℕ) (r : Fresh) (room₁ : List ℕ) (roomy : 12608 ≤ length out) (enough : length room₀ ≡ 12600) (counted : b ≡ take 12609 input)
-    (handed-in : readAt true b ss ns ≡ read (parted b)) (F : Gives room₀ b ss ns r room₁) where
-  printed-is : freshPrinted out input ≡ freshLines (answered room₀ b ss ns)
+module _ (out input room₀ ss ns : List ℕ) (r : Fresh) (room₁ : List ℕ) (roomy : 12608 ≤ length out) (enough : length room₀ ≡ 12600)
+    (handed-in : readAt true input ss ns ≡ read (parted (take 12609 input))) (F : Gives room₀ input ss ns r room₁) where
+  printed-is : freshPrinted out input ≡ freshLines (answered room₀ input ss ns)
   unfolding freshPrinted planfresh
   printed-is =
       ap (λ (x : Bool). if x (planfresh input) []) (le-leb separatedRoom (length out) roomy)
-      ∙ (ap (λ (s : List ℕ). freshLines (afresh (read (parted s)))) (sym counted)
-      ∙ ap (λ (a : Paper.Answer). freshLines (afresh a)) (sym (roomy-call room₀ b ss ns (omega arith) ∙ handed-in)))
+      ∙ ap (λ (a : Paper.Answer). freshLines (afresh a)) (sym (roomy-call room₀ input ss ns (omega arith) ∙ handed-in))
 
   module _ (z : r .number ≡ 0) where
-    there : Freshly room₀ b ss ns r room₁
-    there = freshly room₀ b ss ns r room₁ F z
+    there : Freshly room₀ input ss ns r room₁
+    there = freshly room₀ input ss ns r room₁ F z
 
     lines : freshPrinted out input ≡ separated (pagesIn r room₁)
     lines = printed-is ∙ (ap (λ (a : Paper.Answer). freshLines (afresh a)) (there .is-plan) ∙ (ap (λ (w : Written). freshLines (writes w)) (there .is-fresh) ∙ ap separated (sym (pages-in there))))
@@ -101,5 +100,5 @@ module _ (out input room₀ b ss ns : List ℕ) (r : Fresh) (room₁ : List ℕ)
     -- and are printed
     pub refused-printed : (out′ : List ℕ) (n : ℕ) → (n ≡ length (refusalLines (r .number) (r .page) (r .place))) × (out′ ≡ laid out 0 (refusalLines (r .number) (r .page) (r .place))) → FreshPrints out input out′ n
     refused-printed out′ n (u, v) =
-        let e = refusal-lines (answered room₀ b ss ns) r (F .result-is) h ∙ sym printed-is in
+        let e = refusal-lines (answered room₀ input ss ns) r (F .result-is) h ∙ sym printed-is in
         (u ∙ ap length e, v ∙ ap (laid out 0) e)

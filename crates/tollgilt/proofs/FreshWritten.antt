@@ -5,14 +5,15 @@ use mathlib.Core.List.{List, [], _∷_, map}
 use Prim.Native.Nat.{ℕ, zero, suc, _+_, _≤_, _<_}
 use native.Mathlib.Omega.{arith}
 use lib.Dec.{leb}
-use lib.ListN.{length, drop, getD, replicate, drop-of-length-le}
+use lib.ListN.{length, drop, getD, drop-of-length-le}
 use lib.Seq.{drop-cons}
 use borrow.Author.Tests.{lt-leb}
 use Rattle.paper.specs.Reading as Paper
 use Rattle.paper.specs.Layout.{textOf}
 use Rattle.paper.specs.Writing.{Written, tooMany, unsound, tooLong, written, fresh}
 use Rattle.paper.specs.Calls.{pageRoom, pagesAt, readAt, freshCall}
-use Rattle.plan.specs.Numbers.{padded, planRows}
+use Rattle.plan.specs.Numbers.{planRows}
+use Rattle.plan.proofs.Spans.{padded-long}
 use Rattle.reader.specs.Answers as Reader
 use Rattle.reader.specs.Promise as Reads
 use Rattle.reader.specs.declared.answer.Answer as Code
@@ -23,7 +24,7 @@ use Rattle.writer.specs.declared.writing.Writing.{Writing}
 use Rattle.writer.proofs.WrittenBack.{read-written}
 use Rattle.tollgilt.specs.Fresh.{Answer, refusal, pages, writes, afresh, answered, refusedWith, given, roomAfter, Promised, Handed}
 use Rattle.tollgilt.specs.declared.fresh.Fresh.{Fresh}
-use Rattle.tollgilt.proofs.ListLaws.{Numbered, call-numbered, read-here}
+use Rattle.tollgilt.proofs.ListLaws.{Numbered, call-numbered, rows₀, text₀, read-here}
 use Rattle.tollgilt.proofs.FreshLaws.{plan-read, roomy-call}
 
 -- ---- the room
@@ -33,22 +34,11 @@ pub no-room : (out b ss ns : List ℕ) → length out < 12600 → answered out b
 unfolding freshCall readAt
 no-room out b ss ns h = rw (lt-leb pageRoom (length out) h)
 
--- with room enough, the call is answered as reading into rooms of 256 rows and 12,600 bytes of text
-pub same-call : (out b ss ns : List ℕ) → 12600 ≤ length out → Reads.answered (replicate 12288 0) (replicate 12600 0) b ss ns ≡ freshCall (length out) b ss ns
-same-call out b ss ns h = read-here b ss ns ∙ sym (roomy-call out b ss ns h)
-
 -- ---- what is promised
 
 -- a refusal, whatever refused
 pub refuses : (a : Answer) (out : List ℕ) (r : Fresh) (n k i : ℕ) → a ≡ refusal n k i → r ≡ refusedWith n k i → Promised a out r out
 refuses a out r n k i e q = record { result-is = q ∙ sym (ap given e); room-is = sym (ap (λ (x : Answer). roomAfter x out) e) }
-
--- reading refused the pages
-pub not-written : (a : Paper.Answer) (out rows₀ text₀ rows text : List ℕ) (q : Reading) (r : Fresh) (n k i : ℕ) → Reads.Promised a rows₀ text₀ q rows text → (n ≡ 0 → ⊥)
-    → n ≡ Reader.numbersOf (q .answer) .number → k ≡ Reader.numbersOf (q .answer) .page → i ≡ Reader.numbersOf (q .answer) .place → r ≡ refusedWith n k i → Promised (afresh a) out r out
-not-written (Paper.refusal m j l) out rows₀ text₀ rows text q r n k i R h u v w e =
-    record { result-is = e ∙ rw (u, v, w) (ap (λ (t : Reader.Numbers). refusedWith (t .number) (t .page) (t .place)) (R .answer-is)); room-is = refl }
-not-written (Paper.plan p) out rows₀ text₀ rows text q r n k i R h u v w e = absurd (h (u ∙ ap (λ (c : Code.Answer). Reader.numbersOf c .number) (R .answer-is)))
 
 -- the numbers of what writing gave
 abbrev pub made : ℕ → ℕ → Writing → Fresh
@@ -67,19 +57,35 @@ laid-as (unsound j) out w out′ n i P u v = not-laid 13 j out w out′ n i P u 
 laid-as (tooLong j) out w out′ n i P u v = not-laid 14 j out w out′ n i P u v
 laid-as (written f) out w out′ n i P u v = record { result-is = rw (u, v, P .answer-is, P .pages-are, P .lens-are); room-is = P .room-is }
 
--- reading gave a plan: writing its numbers is writing that plan
-pub plan-laid : (out b ss ns rows₀ text₀ rows text : List ℕ) (q : Reading) → Reads.Promised (freshCall (length out) b ss ns) rows₀ text₀ q rows text
-    → Reader.numbersOf (q .answer) .number ≡ 0 → 12600 ≤ length out → (w : Writing) (out′ : List ℕ) (n i : ℕ) → Writes.Promised (Writes.answered out (q .plan) rows text) out w out′
-    → n ≡ Writer.numbersOf (w .answer) .number → i ≡ Writer.numbersOf (w .answer) .place → Promised (answered out b ss ns) out (made n i w) out′
-unfolding freshCall
-plan-laid out b ss ns rows₀ text₀ rows text q R z h w out′ n i P u v = at (freshCall (length out) b ss ns) refl (call-numbered (leb pageRoom (length out)) b ss ns) R
-  where
-    at : (a : Paper.Answer) → freshCall (length out) b ss ns ≡ a → Numbered a → Reads.Promised a rows₀ text₀ q rows text → Promised (afresh a) out (made n i w) out′
-    at (Paper.refusal m k j) e g T = let y : Reader.numbersOf (q .answer) .number ≡ m = ap (λ (t : Reader.Numbers). t .number) (T .answer-is) in absurd (omega arith)
-    at (Paper.plan p) e g T =
-        let same : Writes.answered out (q .plan) rows text ≡ fresh p
-        = rw (T .plan-is, T .rows-are, T .text-is) (read-written (pagesAt b ss ns) p (drop (0 + length (textOf p)) text₀) (drop (0 + length (planRows p)) rows₀) out (plan-read out b ss ns p e) h) in
-        laid-as (fresh p) out w out′ n i (subst (λ (x : Written). Writes.Promised x out w out′) same P) u v
+-- what reading gives for a call with room enough
+module _ (out b ss ns : List ℕ) (h : 12600 ≤ length out) (rows text : List ℕ) (q : Reading) (R : Reads.Promised (Reads.answered rows₀ text₀ b ss ns) rows₀ text₀ q rows text) where
+  abbrev called : Paper.Answer
+  called = freshCall (length out) b ss ns
+
+  read-as : Reads.Promised called rows₀ text₀ q rows text
+  read-as = read-here b ss ns rows text q called (roomy-call out b ss ns h) R
+
+  -- reading refused the pages
+  pub not-written : (r : Fresh) (n k i : ℕ) → (n ≡ 0 → ⊥) → n ≡ Reader.numbersOf (q .answer) .number → k ≡ Reader.numbersOf (q .answer) .page → i ≡ Reader.numbersOf (q .answer) .place
+      → r ≡ refusedWith n k i → Promised (answered out b ss ns) out r out
+  not-written r n k i z u v w e = at called read-as
+    where
+      at : (a : Paper.Answer) → Reads.Promised a rows₀ text₀ q rows text → Promised (afresh a) out r out
+      at (Paper.refusal m j l) T = record { result-is = e ∙ rw (u, v, w) (ap (λ (t : Paper.Numbers). refusedWith (t .number) (t .page) (t .place)) (T .answer-is)); room-is = refl }
+      at (Paper.plan p) T = absurd (z (u ∙ ap (λ (c : Code.Answer). Reader.numbersOf c .number) (T .answer-is)))
+
+  -- reading gave a plan: writing its numbers is writing that plan
+  pub plan-laid : Reader.numbersOf (q .answer) .number ≡ 0 → (w : Writing) (out′ : List ℕ) (n i : ℕ) → Writes.Promised (Writes.answered out (q .plan) rows text) out w out′
+      → n ≡ Writer.numbersOf (w .answer) .number → i ≡ Writer.numbersOf (w .answer) .place → Promised (answered out b ss ns) out (made n i w) out′
+  unfolding freshCall
+  plan-laid z w out′ n i P u v = at called refl (call-numbered (leb pageRoom (length out)) b ss ns) read-as
+    where
+      at : (a : Paper.Answer) → called ≡ a → Numbered a → Reads.Promised a rows₀ text₀ q rows text → Promised (afresh a) out (made n i w) out′
+      at (Paper.refusal m k j) e g T = let y : Reader.numbersOf (q .answer) .number ≡ m = ap (λ (t : Paper.Numbers). t .number) (T .answer-is) in absurd (omega arith)
+      at (Paper.plan p) e g T =
+          let same : Writes.answered out (q .plan) rows text ≡ fresh p
+          = rw (T .plan-is, T .rows-are, T .text-is) (read-written (pagesAt b ss ns) p (drop (0 + length (textOf p)) text₀) (drop (0 + length (planRows p)) rows₀) out (plan-read out b ss ns p e) h) in
+          laid-as (fresh p) out w out′ n i (subst (λ (x : Written). Writes.Promised x out w out′) same P) u v
 
 -- ---- the border
 
@@ -92,15 +98,10 @@ one-by-one : (l : List ℕ) (k i : ℕ) → i + k ≡ length l → drop i l ≡ 
 one-by-one l zero i h = let g : length l ≤ i = omega arith in drop-of-length-le l g
 one-by-one l (suc k) i h = drop-cons l i 0 (omega arith) ∙ ap (λ (t : List ℕ). getD l i 0 ∷ t) (one-by-one l k (suc i) (omega arith))
 
-padded-long : (k : ℕ) (l : List ℕ) → length (padded k 0 l) ≡ k
-padded-long zero l = refl
-padded-long (suc k) [] = ap suc (padded-long k [])
-padded-long (suc k) (x ∷ l) = ap suc (padded-long k l)
-
 -- there are nine lengths
 nine-lens : (a : Answer) (r : Fresh) → r ≡ given a → length (r .lens) ≡ 9
-nine-lens (refusal n k i) r e = ap (λ (t : Fresh). length (t .lens)) e ∙ padded-long 9 []
-nine-lens (pages f) r e = ap (λ (t : Fresh). length (t .lens)) e ∙ padded-long 9 (map length f)
+nine-lens (refusal n k i) r e = ap (λ (t : Fresh). length (t .lens)) e ∙ padded-long {A = ℕ} 0 9 []
+nine-lens (pages f) r e = ap (λ (t : Fresh). length (t .lens)) e ∙ padded-long {A = ℕ} 0 9 (map length f)
 
 -- what is handed out are the numbers of the result
 pub handed : (a : Answer) (out : List ℕ) (r : Fresh) (out′ : List ℕ) → Promised a out r out′ → Handed a out (r .number) out′ (r .pages ∷ r .page ∷ r .place ∷ placesOf (r .lens) 0 9)

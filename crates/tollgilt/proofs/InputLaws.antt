@@ -1,28 +1,30 @@
 -- InputLaws: the pages of planlist's input, handed in by their starts and lengths, are read as document 01 says; and what is printed for the answer.
 -- Assumes nothing.
-use mathlib.Core.Path.{_≡_, refl, ap, sym, _∙_}
+use mathlib.Core.Path.{_≡_, refl, ap, sym, _∙_, subst}
 use mathlib.Core.Bool.{Bool, true, false}
 use mathlib.Core.List.{List, [], _∷_}
 use Prim.Native.Nat.{ℕ, zero, suc, _+_, _≤_, _<_}
 use native.Mathlib.Omega.{arith}
 use lib.Dec.{leb}
 use lib.ListN.{length, take, length-take}
+use lib.Seq.{getD-take}
 use borrow.Author.Tests.{le-leb, lt-leb, leb-true, leb-false}
 use Rattle.paper.specs.Lists.{if}
 use Rattle.paper.specs.Reading as Paper
-use Rattle.paper.specs.Reading.{read}
+use Rattle.paper.specs.Reading.{Numbers, read}
 use Rattle.paper.specs.Listing.{onto, parted, refusalLines, answerLines, planlist}
 use Rattle.paper.specs.Calls.{listingRoom, inside, readAt}
-use Rattle.paper.proofs.CallLaws.{many, reads-pages, one}
+use Rattle.paper.proofs.Small.{no, both}
+use Rattle.paper.proofs.CallLaws.{many, reads-pages, Agree, only-pages, one}
 use Rattle.paper.proofs.Rooms.{answer-fits}
 use Rattle.markup.specs.Laid.{laid}
 use Rattle.listing.specs.Split.{startsFrom, lengths}
 use Rattle.listing.proofs.Splits.{Split, split-fronts, nine-or-fewer}
-use Rattle.reader.specs.Answers.{Numbers, numbersOf}
-use Rattle.tollgilt.specs.Promise.{Promised}
+use Rattle.reader.specs.Answers.{numbersOf}
+use Rattle.tollgilt.specs.Promise.{Promised, answered}
 use Rattle.tollgilt.specs.Printed.{printed}
 use Rattle.tollgilt.specs.declared.list.Listed.{Listed}
-use Rattle.tollgilt.proofs.ListLaws.{Numbered, read-numbered}
+use Rattle.tollgilt.proofs.ListLaws.{Numbered, read-numbered, list-call}
 
 -- ---- the pages lie in the input
 
@@ -51,9 +53,22 @@ many-read : (f : List (List ℕ)) → 9 < length f → read f ≡ Paper.refusal 
 unfolding read
 many-read f h = rw (le-leb 1 (length f) (omega arith), lt-leb (length f) 9 h)
 
--- the pages that the input was split into, handed in, are read as the pages of the input
-pub split-read : (s starts₀ lens₀ starts lens : List ℕ) (r : ℕ) → Split s starts₀ lens₀ starts lens r → 10 ≤ length starts → readAt true s (take r starts) (take r lens) ≡ read (parted s)
-split-read s starts₀ lens₀ starts lens r w ten = at (leb r 9) refl
+-- pages that lie in the first bytes of a buffer lie in the buffer, and are the same there
+front-lies : (m : ℕ) (b ss ns : List ℕ) → inside (take m b) ss ns ≡ true → (inside b ss ns ≡ true) × Agree b (take m b) ss ns
+front-lies m b [] [] e = (refl, tt)
+front-lies m b [] (n ∷ ns) e = no (sym e)
+front-lies m b (s ∷ ss) [] e = no (sym e)
+front-lies m b (s ∷ ss) (n ∷ ns) e =
+    let (x, y) = both (leb (s + n) (length (take m b))) (inside (take m b) ss ns) e in
+    let h = leb-true (s + n) (length (take m b)) x in
+    let k = length-take m b in
+    let (u, v) = front-lies m b ss ns y in
+    (rw (le-leb (s + n) (length b) (omega arith), u), (λ i g l. sym (getD-take m b i 0 (omega arith)), v))
+
+-- the pages that a list was split into, handed in with it, are read as its pages
+pages-read : (s starts₀ lens₀ starts lens : List ℕ) (r : ℕ) → Split s starts₀ lens₀ starts lens r → 10 ≤ length starts
+    → (inside s (take r starts) (take r lens) ≡ true) × (readAt true s (take r starts) (take r lens) ≡ read (parted s))
+pages-read s starts₀ lens₀ starts lens r w ten = (lie, at (leb r 9) refl)
   where
     lie : inside s (take r starts) (take r lens) ≡ true
     lie = let (a, b) = split-fronts s starts₀ lens₀ starts lens r w in rw (a, b) (first-inside 10 s 0 (parted s) (omega (arith, parted-spread s)))
@@ -64,6 +79,14 @@ split-read s starts₀ lens₀ starts lens r w ten = at (leb r 9) refl
         let h : 9 < r = leb-false r 9 e in
         let k = length-take 10 (parted s) in
         one true s (take r starts) (take r lens) 0 0 .1 (many (omega (arith, length-take r starts)), refl, refl) ∙ sym (many-read (parted s) (omega (arith, w .0)))
+
+-- so are those of what counts of an input, handed in with the input
+pub split-read : (b : List ℕ) (m : ℕ) (starts₀ lens₀ starts lens : List ℕ) (r : ℕ) → take m b ≡ take 12609 b → Split (take m b) starts₀ lens₀ starts lens r → 10 ≤ length starts
+    → readAt true b (take r starts) (take r lens) ≡ read (parted (take 12609 b))
+split-read b m starts₀ lens₀ starts lens r counts w ten =
+    let (lie, same) = pages-read (take m b) starts₀ lens₀ starts lens r w ten in
+    let (u, v) = front-lies m b (take r starts) (take r lens) lie in
+    only-pages true b (take m b) (take r starts) (take r lens) (u ∙ sym lie) v ∙ same ∙ ap (λ (l : List ℕ). read (parted l)) counts
 
 -- ---- what is printed
 
@@ -97,20 +120,26 @@ refusal-lines : (a : Paper.Answer) (out out′ : List ℕ) (l : Listed) → Prom
 refusal-lines (Paper.refusal n k i) out out′ l P h = (ap (λ (t : Numbers). refusalLines (t .number) (t .page) (t .place)) (P .answer-is), P .room-is)
 refusal-lines (Paper.plan p) out out′ l P h = absurd (h (ap (λ (t : Numbers). t .number) (P .answer-is)))
 
-module _ (out input out′ : List ℕ) (n : ℕ) (l : Listed) (room : 25200 ≤ length out) (counted : take n input ≡ take 12609 input) (P : Promised (read (parted (take n input))) out l out′) where
-  printed-is : printed out input ≡ answerLines (read (parted (take n input)))
+module _ (out input ss ns out′ : List ℕ) (l : Listed) (room : 25200 ≤ length out) (handed-in : readAt true input ss ns ≡ read (parted (take 12609 input))) (P : Promised (answered out input ss ns) out l out′) where
+  abbrev answer : Paper.Answer
+  answer = read (parted (take 12609 input))
+
+  listed-as : Promised answer out l out′
+  listed-as = subst (λ (a : Paper.Answer). Promised a out l out′) (list-call out input ss ns room ∙ handed-in) P
+
+  printed-is : printed out input ≡ answerLines answer
   unfolding printed planlist
-  printed-is = rw (le-leb listingRoom (length out) room, counted)
+  printed-is = rw (le-leb listingRoom (length out) room)
 
   -- a listing
   pub plan-printed : numbersOf (l .answer) .number ≡ 0 → Prints out input out′ (l .length)
   plan-printed z =
-      let (a, b) = plan-lines (read (parted (take n input))) out out′ l (read-numbered (parted (take n input))) P z in
+      let (a, b) = plan-lines answer out out′ l (read-numbered (parted (take 12609 input))) listed-as z in
       (a ∙ ap length (sym printed-is), b ∙ ap (laid out 0) (sym printed-is))
 
   module _ (number page place : ℕ) (u : number ≡ numbersOf (l .answer) .number) (v : page ≡ numbersOf (l .answer) .page) (w : place ≡ numbersOf (l .answer) .place) (h : number ≡ 0 → ⊥) where
     lines : (refusalLines number page place ≡ printed out input) × (out′ ≡ out)
-    lines = let (a, b) = refusal-lines (read (parted (take n input))) out out′ l P (λ z. h (u ∙ z)) in (rw (u, v, w) (a ∙ sym printed-is), b)
+    lines = let (a, b) = refusal-lines answer out out′ l listed-as (λ z. h (u ∙ z)) in (rw (u, v, w) (a ∙ sym printed-is), b)
 
     -- the refusal's lines fit
     pub refusal-fits : length (refusalLines number page place) ≤ length out′

@@ -11,7 +11,7 @@ use borrow.Author.Tests.{leb-true, le-leb, lt-leb}
 use Rattle.paper.specs.Lists.{if}
 use Rattle.paper.specs.Plan as Said
 use Rattle.paper.specs.Reading as Paper
-use Rattle.paper.specs.Reading.{read, decide, judgeAll}
+use Rattle.paper.specs.Reading.{Numbers, read, decide, judgeAll}
 use Rattle.paper.specs.Writing.{sound}
 use Rattle.paper.specs.Layout.{textOf}
 use Rattle.paper.specs.Listing.{listing}
@@ -21,10 +21,9 @@ use Rattle.paper.proofs.CallLaws.{two-to-twelve}
 use Rattle.paper.proofs.ReadSound.{read-sound}
 use Rattle.paper.proofs.Rooms.{rooms}
 use Rattle.markup.specs.Laid.{laid}
-use Rattle.plan.specs.Numbers.{showPlan, headInText, fitRows, planRows}
+use Rattle.plan.specs.Numbers.{rowsLent, showPlan, headInText, fitRows, planRows}
 use Rattle.plan.proofs.Shown.{sound-back}
-use Rattle.reader.specs.Answers.{Numbers, numbersOf, told}
-use Rattle.reader.specs.Lent.{rowsLent}
+use Rattle.reader.specs.Answers.{numbersOf, told}
 use Rattle.reader.specs.Promise as Reads
 use Rattle.reader.specs.declared.answer.Answer.{Answer}
 use Rattle.reader.specs.declared.answer.Answer.the-variants as Code
@@ -81,19 +80,25 @@ pub no-room : (out b ss ns : List ℕ) → length out < 25200 → answered out b
 unfolding listCall readAt
 no-room out b ss ns h = rw (lt-leb listingRoom (length out) h)
 
--- 256 rows and 12,600 bytes of text are room enough for reading
-pub read-here : (b ss ns : List ℕ) → Reads.answered (replicate 12288 0) (replicate 12600 0) b ss ns ≡ readAt true b ss ns
+-- the rows and the text that are lent to reading
+abbrev pub rows₀ : List ℕ
+rows₀ = replicate 12288 0
+
+abbrev pub text₀ : List ℕ
+text₀ = replicate 12600 0
+
+-- they are room enough: what reading promises for the call it promises for the answer to its pages
+pub read-here : (b ss ns rows text : List ℕ) (r : Reading) (a : Paper.Answer) → a ≡ readAt true b ss ns
+    → Reads.Promised (Reads.answered rows₀ text₀ b ss ns) rows₀ text₀ r rows text → Reads.Promised a rows₀ text₀ r rows text
 unfolding readCall
-read-here b ss ns = ap (λ (x : Bool). readAt x b ss ns) (ap (λ (n : ℕ). roomy (rowsLent n) (length (replicate {A = ℕ} 12600 0))) (length-replicate {A = ℕ} 12288 0) ∙ ap (roomy 256) (length-replicate {A = ℕ} 12600 0))
+read-here b ss ns rows text r a e R =
+    let enough : roomy (rowsLent (length rows₀)) (length text₀) ≡ true = ap (λ (n : ℕ). roomy (rowsLent n) (length text₀)) (length-replicate {A = ℕ} 12288 0) ∙ ap (roomy 256) (length-replicate {A = ℕ} 12600 0) in
+    subst (λ (x : Paper.Answer). Reads.Promised x rows₀ text₀ r rows text) (ap (λ (x : Bool). readAt x b ss ns) enough ∙ sym e) R
 
 -- with room enough, the call is answered as reading its pages
 pub list-call : (out b ss ns : List ℕ) → 25200 ≤ length out → answered out b ss ns ≡ readAt true b ss ns
 unfolding listCall
 list-call out b ss ns h = ap (λ (x : Bool). readAt x b ss ns) (le-leb listingRoom (length out) h)
-
--- so as reading into such rooms
-pub same-call : (out b ss ns : List ℕ) → 25200 ≤ length out → Reads.answered (replicate 12288 0) (replicate 12600 0) b ss ns ≡ answered out b ss ns
-same-call out b ss ns h = read-here b ss ns ∙ sym (list-call out b ss ns h)
 
 -- ---- what is promised
 
@@ -104,12 +109,6 @@ result a n = record { answer = a; length = n }
 -- too little room
 pub nothing-read : (a : Paper.Answer) (out : List ℕ) → a ≡ Paper.refusal 1 0 0 → Promised a out (result Code.NoRoom 0) out
 nothing-read a out e = rw e (record { answer-is = refl; length-is = refl; room-is = refl })
-
--- reading refused the pages
-pub nothing-listed : (a : Paper.Answer) (out rows₀ text₀ rows text : List ℕ) (r : Reading) → Reads.Promised a rows₀ text₀ r rows text
-    → (numbersOf (r .answer) .number ≡ 0 → ⊥) → Promised a out (result (r .answer) 0) out
-nothing-listed (Paper.refusal n k i) out rows₀ text₀ rows text r R h = record { answer-is = R .answer-is; length-is = refl; room-is = refl }
-nothing-listed (Paper.plan p) out rows₀ text₀ rows text r R h = absurd (h (ap (λ (c : Answer). numbersOf c .number) (R .answer-is)))
 
 -- reading gave a plan: its numbers are what the listing asks for, and show that plan
 pub record Listable (a : Paper.Answer) (r : Reading) (rows text out : List ℕ) : Type 0 where
@@ -133,10 +132,10 @@ call-given room b ss ns = at (readAt room b ss ns) refl (call-numbered room b ss
     at (Paper.refusal n k i) e h = h .0
     at (Paper.plan p) e h = let q = call-plan room b ss ns p e in (read-sound (pagesAt b ss ns) p q .0, rooms (pagesAt b ss ns) p q .listing-fits)
 
-given-listable : (a : Paper.Answer) (out rows₀ text₀ rows text : List ℕ) (r : Reading) → Given a → Reads.Promised a rows₀ text₀ r rows text
+given-listable : (a : Paper.Answer) (out rows text : List ℕ) (r : Reading) → Given a → Reads.Promised a rows₀ text₀ r rows text
     → numbersOf (r .answer) .number ≡ 0 → 25200 ≤ length out → Listable a r rows text out
-given-listable (Paper.refusal n k i) out rows₀ text₀ rows text r g R z h = let e : numbersOf (r .answer) .number ≡ n = ap (λ (t : Numbers). t .number) (R .answer-is) in absurd (omega arith)
-given-listable (Paper.plan p) out rows₀ text₀ rows text r g R z h =
+given-listable (Paper.refusal n k i) out rows text r g R z h = let e : numbersOf (r .answer) .number ≡ n = ap (λ (t : Numbers). t .number) (R .answer-is) in absurd (omega arith)
+given-listable (Paper.plan p) out rows text r g R z h =
     let more : List ℕ = drop (0 + length (planRows p)) rows₀ in
     let rest : List ℕ = drop (0 + length (textOf p)) text₀ in
     record {
@@ -148,11 +147,23 @@ given-listable (Paper.plan p) out rows₀ text₀ rows text r g R z h =
       asked = rw (R .plan-is, R .rows-are, R .text-is) (read-asked p rest more out (g .0) (omega (arith, g .1)));
     }
 
--- so it is of a call
-pub listable : (out b ss ns rows₀ text₀ rows text : List ℕ) (r : Reading) → Reads.Promised (answered out b ss ns) rows₀ text₀ r rows text
-    → numbersOf (r .answer) .number ≡ 0 → 25200 ≤ length out → Listable (answered out b ss ns) r rows text out
-unfolding listCall
-listable out b ss ns rows₀ text₀ rows text r R z h = given-listable (answered out b ss ns) out rows₀ text₀ rows text r (call-given (leb listingRoom (length out)) b ss ns) R z h
+-- what reading gives for a call with room enough
+module _ (out b ss ns : List ℕ) (h : 25200 ≤ length out) (rows text : List ℕ) (r : Reading) (R : Reads.Promised (Reads.answered rows₀ text₀ b ss ns) rows₀ text₀ r rows text) where
+  read-as : Reads.Promised (answered out b ss ns) rows₀ text₀ r rows text
+  read-as = read-here b ss ns rows text r (answered out b ss ns) (list-call out b ss ns h) R
+
+  -- reading refused the pages
+  pub nothing-listed : (numbersOf (r .answer) .number ≡ 0 → ⊥) → Promised (answered out b ss ns) out (result (r .answer) 0) out
+  nothing-listed z = at (answered out b ss ns) read-as
+    where
+      at : (a : Paper.Answer) → Reads.Promised a rows₀ text₀ r rows text → Promised a out (result (r .answer) 0) out
+      at (Paper.refusal n k i) T = record { answer-is = T .answer-is; length-is = refl; room-is = refl }
+      at (Paper.plan p) T = absurd (z (ap (λ (c : Answer). numbersOf c .number) (T .answer-is)))
+
+  -- reading gave a plan
+  pub listable : numbersOf (r .answer) .number ≡ 0 → Listable (answered out b ss ns) r rows text out
+  unfolding listCall
+  listable z = given-listable (answered out b ss ns) out rows text r (call-given (leb listingRoom (length out)) b ss ns) read-as z h
 
 -- the listing is as long as the room at most
 pub listed-short : {a : Paper.Answer} {r : Reading} {rows text out : List ℕ} → Listable a r rows text out → length (listing (showPlan text (r .plan) rows)) ≤ 25200

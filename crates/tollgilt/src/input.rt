@@ -36,14 +36,15 @@ fn counted(input: &[u8]) -> usize
     input.len()
 }
 
-// The pages of an input. Handed in, they are read as document 01 says of the input.
+// The pages of what counts of an input. Handed in, they are read as document 01 says of the input.
 fn split(input: &[u8]) -> Parts
     ensures { λ r. ⌜ (r .pages ≤ length (r .starts)) × (r .pages ≤ length (r .lens))
-        × (readAt true (now (input .entry)) (take (r .pages) (r .starts)) (take (r .pages) (r .lens)) ≡ read (parted (now (input .entry)))) ⌝ }
+        × (readAt true (now (input .entry)) (take (r .pages) (r .starts)) (take (r .pages) (r .lens)) ≡ read (parted (take 12609 (now (input .entry))))) ⌝ }
 {
     let mut starts = [0usize; 10];
     let mut lens = [0usize; 10];
-    let k = split_pages(input, &mut starts, &mut lens);
+    let n = counted(input);
+    let k = split_pages(&input[..n], &mut starts, &mut lens);
     Parts {
         pages: k,
         starts: starts,
@@ -61,13 +62,11 @@ pub fn list_input(input: &[u8], out: &mut [u8]) -> usize
     if out.len() < 25200 {
         return 0;
     }
-    let n = counted(input);
-    let part = &input[..n];
-    let parts = split(part);
+    let parts = split(input);
     let k = parts.pages;
     let starts = parts.starts;
     let lens = parts.lens;
-    let listed = list_pages(part, &starts[..k], &lens[..k], out);
+    let listed = list_pages(input, &starts[..k], &lens[..k], out);
     let answer = listed.answer;
     let number = refusal_number(answer);
     if number == 0 {
@@ -108,14 +107,12 @@ pub fn fresh_input(input: &[u8], out: &mut [u8]) -> usize
     if out.len() < 12608 {
         return 0;
     }
-    let n = counted(input);
-    let part = &input[..n];
-    let parts = split(part);
+    let parts = split(input);
     let k = parts.pages;
     let starts = parts.starts;
     let lens = parts.lens;
     let mut room = [0u8; 12600];
-    let fresh = fresh_pages(part, &starts[..k], &lens[..k], &mut room);
+    let fresh = fresh_pages(input, &starts[..k], &lens[..k], &mut room);
     let number = fresh.number;
     if number == 0 {
         return join_pages(fresh, &room, out);

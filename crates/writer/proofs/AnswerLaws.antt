@@ -3,9 +3,10 @@
 use mathlib.Core.Path.{_≡_, refl, ap, sym, _∙_}
 use lib.Dec.{eqb}
 use Rattle.paper.specs.Lists.{if}
+use Rattle.paper.specs.Reading.{Numbers}
 use Rattle.writer.specs.declared.answer.Outcome.{Outcome}
 use Rattle.writer.specs.declared.answer.Outcome.the-variants.{Pages, NoRoom, Unsound, TooLong}
-use Rattle.writer.specs.Answers.{Numbers, numbersOf}
+use Rattle.writer.specs.Answers.{numbersOf}
 
 -- the answer of three numbers
 answerOf : Numbers → Outcome

@@ -26,10 +26,11 @@ use Rattle.plan.specs.Records.{paperKind, codeKind, doseIn, paperDose, codeSpan
 use Rattle.plan.specs.declared.Times.{Times}
 use Rattle.plan.specs.declared.Kind as Code
 use Rattle.plan.specs.declared.Dose.the-variants.{Scheme, Free, Unstated}
+use Rattle.plan.proofs.Kept.{kind-is}
 use Rattle.plan.proofs.Doses.{shows, each-span, dose-is}
 use Rattle.sound.specs.Sound.{recordSound}
 use Rattle.listing.specs.Numbered.{spanAt, spansAt, fieldsFrom, spanPlace}
-use Rattle.listing.proofs.Rowed.{part-of-row, spans-inside, kind-is, row-fields}
+use Rattle.listing.proofs.Rowed.{part-of-row, spans-inside, row-fields}
 use Rattle.writer.specs.Spelling.{rowText}
 use Rattle.writer.specs.Tags.{attribute, fieldsText, tagText, doseText, doseWithin, substanceText, endText, medicationText}
 use Rattle.writer.proofs.Spelled.{attrs-step, attrs-are, fields-parted, key-name, span-of, spans-parted}

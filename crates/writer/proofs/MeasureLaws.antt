@@ -25,7 +25,7 @@ use Rattle.paper.proofs.Sizes.{slotSize, slotSizes, attrs-size}
 use Rattle.plan.specs.Numbers.{recordAt, showRow, showRows, kindShown}
 use Rattle.plan.specs.Records.{paperKind, codeKind}
 use Rattle.plan.proofs.Shown.{rows-shown, row-next}
-use Rattle.listing.proofs.Rowed.{kind-is}
+use Rattle.plan.proofs.Kept.{kind-is}
 use Rattle.writer.specs.Spelling.{rowText}
 use Rattle.writer.specs.Cutting.{measureOf}
 

@@ -3,8 +3,7 @@
 use mathlib.Core.Path.{_≡_, refl, sym, ap, _∙_}
 use mathlib.Core.Bool.{Bool, true, false}
 use mathlib.Core.List.{List, [], _∷_, _++_, map, append-nil, append-assoc}
-use Prim.Native.Nat.{ℕ, zero, suc, _+_, _*_, _-_, _≤_, _<_}
-use native.Mathlib.Nat.{le-of-suc-le-suc, not-suc-le-zero}
+use Prim.Native.Nat.{ℕ, _+_, _*_, _-_, _≤_, _<_}
 use native.Mathlib.Omega.{arith}
 use lib.Dec.{ltb}
 use lib.ListN.{length, take, drop, getD, drop-of-length-le}
@@ -17,11 +16,14 @@ use Rattle.paper.specs.Judging.{allEmpty}
 use Rattle.paper.specs.Layout.{Span, shownAll}
 use Rattle.paper.specs.Writing.{mpSlots, rowSlots, decimal, soundHead, printAttrs, attrsOf, spelled, bare, opening, closing, bodyText, heading, rowsText, measuresText, page}
 use Rattle.paper.proofs.Small.{both}
-use Rattle.plan.specs.Numbers.{recordAt, paperSpan, flat, headWith, showHead, showRow, absent, within, headInText}
+use Rattle.plan.specs.Numbers.{recordAt, spansIn, paperSpan, headNumbers, headWith, showHead, showRow, absent, within, headInText}
 use Rattle.plan.specs.declared.Plan as Code
-use Rattle.plan.proofs.Doses.{shows}
+use Rattle.plan.proofs.Spans.{flat-long}
+use Rattle.plan.proofs.Doses.{all-empty}
 use Rattle.plan.proofs.Shown.{row-next, rows-shown}
 use Rattle.sound.specs.Sound.{headSound, recordSound, recordsSound}
+use Rattle.sound.specs.Judged.{absentFrom}
+use Rattle.sound.proofs.SoundLaws.{each-sound}
 use Rattle.listing.specs.Numbered.{spansAt, fieldsFrom}
 use Rattle.listing.proofs.Flat.{head-fields, part-shown, part-every, two-first}
 use Rattle.writer.specs.Spelling.{rowText, headText, rowsBetween}
@@ -122,95 +124,72 @@ mp-spelled p u l a z h k =
 
 -- the attributes of an element whose values are n of the head's, from value j on
 part-spelled : (t : List ℕ) (ss : List Span) (k : Kind) (first n j : ℕ) → fieldsOf k ≡ fieldsFrom first n → j + n ≤ length ss
-    → spelled k (take n (drop j (shownAll t ss))) ≡ fieldsText first n t (2 * j) (flat ss)
+    → spelled k (take n (drop j (shownAll t ss))) ≡ fieldsText first n t (2 + 2 * j) (headNumbers ss)
 unfolding fieldsText
 part-spelled t ss k first n j f h =
     ap (λ (fs : List Field). printAttrs (attrsOf fs (take n (drop j (shownAll t ss))))) f
     ∙ ap (λ (vs : Slots). printAttrs (attrsOf (fieldsFrom first n) vs)) (part-shown t ss j n h)
 
--- spans within the text show nothing exactly when they are all absent
-all-absent : (t : List ℕ) (ss : List Span) → every (within (length t)) ss ≡ true → allEmpty (shownAll t ss) ≡ every absent ss
-all-absent t [] e = refl
-all-absent t (s ∷ ss) e = let (a, b) = both (within (length t) s) (every (within (length t)) ss) e in rw (shows t s a, all-absent t ss b)
-
 -- the head's elements by its numbers
 module _ (patch a z : ℕ) (t : List ℕ) (ss : List Span) (long : length ss ≡ 27) (small : a ≤ 9) (few : z ≤ 9) where
-  start-is : opening MP (mpSlots (headWith patch (shownAll t ss)) a z) [] ≡ startText patch a z t (flat ss)
+  start-is : opening MP (mpSlots (headWith patch (shownAll t ss)) a z) [] ≡ startText patch a z t (headNumbers ss)
   unfolding startText fieldsText
   start-is =
       let vs : Slots = shownAll t ss in
-      let two : getD vs 0 [] ∷ getD vs 1 [] ∷ [] ≡ shownAll t (spansAt 2 0 (flat ss)) = two-first t ss (omega arith) ∙ part-shown t ss 0 2 (omega arith) in
+      let two : getD vs 0 [] ∷ getD vs 1 [] ∷ [] ≡ shownAll t (spansAt 2 2 (headNumbers ss)) = two-first t ss (omega arith) ∙ part-shown t ss 0 2 (omega arith) in
       mp-spelled (decimal patch) (getD vs 0 []) (getD vs 1 []) a z small few
       ∙ ap (λ (q : Slots). bytes "<MP v=\"027\"" ++ (attribute (bytes "p") (decimal patch) ++ (printAttrs (attrsOf (fieldsFrom 2 2) q) ++ (32 ∷ 97 ∷ 61 ∷ 34 ∷ (48 + a) ∷ 34 ∷ 32 ∷ 122 ∷ 61 ∷ 34 ∷ (48 + z) ∷ 34 ∷ 62 ∷ [])))) two
 
-  measures-is : every (within (length t)) ss ≡ true → measuresText (take 7 (drop 20 (shownAll t ss))) [] ≡ measuresPart t 40 (flat ss)
+  measures-is : every (within (length t)) ss ≡ true → measuresText (take 7 (drop 20 (shownAll t ss))) [] ≡ measuresPart t 42 (headNumbers ss)
   unfolding measuresPart tagText
   measures-is w =
       let vs : Slots = take 7 (drop 20 (shownAll t ss)) in
-      let none : allEmpty vs ≡ every absent (spansAt 7 40 (flat ss)) =
-      ap allEmpty (part-shown t ss 20 7 (omega arith)) ∙ all-absent t (spansAt 7 40 (flat ss)) (part-every (within (length t)) ss 20 7 (omega arith) w) in
+      let none : allEmpty vs ≡ every absent (spansAt 7 42 (headNumbers ss)) =
+      ap allEmpty (part-shown t ss 20 7 (omega arith)) ∙ all-empty t (spansAt 7 42 (headNumbers ss)) (part-every (within (length t)) ss 20 7 (omega arith) w) in
       ap (λ (b : Bool). if b [] (bare O vs [])) none
-      ∙ ap (λ (s : List ℕ). if (every absent (spansAt 7 40 (flat ss))) [] (60 ∷ 79 ∷ (s ++ 47 ∷ 62 ∷ []))) (part-spelled t ss O 24 7 20 (head-fields .2) (omega arith))
+      ∙ ap (λ (s : List ℕ). if (every absent (spansAt 7 42 (headNumbers ss))) [] (60 ∷ 79 ∷ (s ++ 47 ∷ 62 ∷ []))) (part-spelled t ss O 24 7 20 (head-fields .2) (omega arith))
 
   pub head-pieces : every (within (length t)) ss ≡ true
       → headText (headWith patch (shownAll t ss)) a z
-      ≡ startText patch a z t (flat ss) ++ (tagText (bytes "<P") 6 8 t 4 (flat ss) (bytes "/>") ++ (tagText (bytes "<A") 14 10 t 20 (flat ss) (bytes "/>") ++ measuresPart t 40 (flat ss)))
+      ≡ startText patch a z t (headNumbers ss) ++ (tagText (bytes "<P") 6 8 t 6 (headNumbers ss) (bytes "/>") ++ (tagText (bytes "<A") 14 10 t 22 (headNumbers ss) (bytes "/>") ++ measuresPart t 42 (headNumbers ss)))
   unfolding tagText
   head-pieces w =
       let h : Head = headWith patch (shownAll t ss) in
-      let p : List ℕ = tagText (bytes "<P") 6 8 t 4 (flat ss) (bytes "/>") in
-      let q : List ℕ = tagText (bytes "<A") 14 10 t 20 (flat ss) (bytes "/>") in
+      let p : List ℕ = tagText (bytes "<P") 6 8 t 6 (headNumbers ss) (bytes "/>") in
+      let q : List ℕ = tagText (bytes "<A") 14 10 t 22 (headNumbers ss) (bytes "/>") in
       let p-is : bare P (h .person) [] ≡ p = ap (λ (s : List ℕ). 60 ∷ 80 ∷ (s ++ 47 ∷ 62 ∷ [])) (part-spelled t ss P 6 8 2 (head-fields .0) (omega arith)) in
       let q-is : bare A (h .author) [] ≡ q = ap (λ (s : List ℕ). 60 ∷ 65 ∷ (s ++ 47 ∷ 62 ∷ [])) (part-spelled t ss A 14 10 10 (head-fields .1) (omega arith)) in
       head-flat h a z
       ∙ ap (λ (y : List ℕ). y ++ (bare P (h .person) [] ++ (bare A (h .author) [] ++ measuresText (h .measures) []))) start-is
-      ∙ ap (λ (y : List ℕ). startText patch a z t (flat ss) ++ (y ++ (bare A (h .author) [] ++ measuresText (h .measures) []))) p-is
-      ∙ ap (λ (y : List ℕ). startText patch a z t (flat ss) ++ (p ++ (y ++ measuresText (h .measures) []))) q-is
-      ∙ ap (λ (y : List ℕ). startText patch a z t (flat ss) ++ (p ++ (q ++ y))) (measures-is w)
-
-flat-long : (ss : List Span) → length (flat ss) ≡ 2 * length ss
-flat-long [] = refl
-flat-long (s ∷ ss) = omega (arith, flat-long ss)
+      ∙ ap (λ (y : List ℕ). startText patch a z t (headNumbers ss) ++ (y ++ (bare A (h .author) [] ++ measuresText (h .measures) []))) p-is
+      ∙ ap (λ (y : List ℕ). startText patch a z t (headNumbers ss) ++ (p ++ (y ++ measuresText (h .measures) []))) q-is
+      ∙ ap (λ (y : List ℕ). startText patch a z t (headNumbers ss) ++ (p ++ (q ++ y))) (measures-is w)
 
 -- spans are half as many as their numbers
-pub spans-counted : (ss : List Span) (l : List ℕ) → l ≡ flat ss → length l ≡ 54 → length ss ≡ 27
+pub spans-counted : (ss : List Span) (l : List ℕ) → l ≡ headNumbers ss → length l ≡ 56 → length ss ≡ 27
 spans-counted ss l e h = omega (arith, flat-long ss, ap length e)
 
 -- the head of a plan in numbers, by the numbers of its spans
-pub head-by : (t : List ℕ) (p : Code.Plan) (a z : ℕ) (l : List ℕ) → length (map paperSpan (p .head)) ≡ 27 → a ≤ 9 → z ≤ 9 → l ≡ flat (map paperSpan (p .head)) → headSound t p ≡ true
+pub head-by : (t : List ℕ) (p : Code.Plan) (a z : ℕ) (l : List ℕ) → length (map paperSpan (p .head)) ≡ 27 → a ≤ 9 → z ≤ 9 → l ≡ headNumbers (map paperSpan (p .head)) → headSound t p ≡ true
     → headText (showHead t p) a z
-    ≡ startText (p .patch) a z t l ++ (tagText (bytes "<P") 6 8 t 4 l (bytes "/>") ++ (tagText (bytes "<A") 14 10 t 20 l (bytes "/>") ++ measuresPart t 40 l))
+    ≡ startText (p .patch) a z t l ++ (tagText (bytes "<P") 6 8 t 6 l (bytes "/>") ++ (tagText (bytes "<A") 14 10 t 22 l (bytes "/>") ++ measuresPart t 42 l))
 unfolding showHead headSound headInText
 head-by t p a z l long h k e s =
     rw e (head-pieces (p .patch) a z t (map paperSpan (p .head)) long h k (both (every (within (length t)) (map paperSpan (p .head))) (soundHead (showHead t p)) s .0))
 
 -- its spans lie in the text
-pub head-inside : (t : List ℕ) (p : Code.Plan) (l : List ℕ) → length (map paperSpan (p .head)) ≡ 27 → l ≡ flat (map paperSpan (p .head)) → headSound t p ≡ true
-    → (j n : ℕ) → j + n ≤ 27 → every (within (length t)) (spansAt n (2 * j) l) ≡ true
+pub head-inside : (t : List ℕ) (p : Code.Plan) (l : List ℕ) → length (map paperSpan (p .head)) ≡ 27 → l ≡ headNumbers (map paperSpan (p .head)) → headSound t p ≡ true
+    → (j n : ℕ) → j + n ≤ 27 → every (within (length t)) (spansAt n (2 + 2 * j) l) ≡ true
 unfolding headSound headInText
 head-inside t p l long e s j n h =
     rw e (part-every (within (length t)) (map paperSpan (p .head)) j n (omega arith) (both (every (within (length t)) (map paperSpan (p .head))) (soundHead (showHead t p)) s .0))
 
--- O without a field is not there
-pub measures-none : (t : List ℕ) (k : ℕ) (l : List ℕ) → every absent (spansAt 7 k l) ≡ true → measuresPart t k l ≡ []
-unfolding measuresPart
-measures-none t k l e = rw e
-
--- and with one it is
-pub measures-some : (t : List ℕ) (k : ℕ) (l : List ℕ) → every absent (spansAt 7 k l) ≡ false → measuresPart t k l ≡ tagText (bytes "<O") 24 7 t k l (bytes "/>")
-unfolding measuresPart
-measures-some t k l e = rw e
+-- O without a field is not there, and with one it is
+pub measures-by : (t l : List ℕ) {b : Bool} → absentFrom 7 20 l ≡ b → measuresPart t 42 l ≡ if b [] (tagText (bytes "<O") 24 7 t 42 l (bytes "/>"))
+unfolding measuresPart absentFrom spansIn spansAt
+measures-by t l e = ap (λ (b : Bool). if b [] (tagText (bytes "<O") 24 7 t 42 l (bytes "/>"))) e
 
 -- ---- the rows in a loop
-
--- each of the records is sound
-record-sound : (t : List ℕ) (n : ℕ) (rows : List ℕ) (j : ℕ) → j < n → recordsSound t n rows ≡ true → recordSound t (recordAt rows j) ≡ true
-record-sound t zero rows j h e = absurd (not-suc-le-zero h)
-record-sound t (suc n) rows zero h e = both (recordSound t (take 48 rows)) (recordsSound t n (drop 48 rows)) e .0
-record-sound t (suc n) rows (suc j) h e =
-    let q : 48 + j * 48 ≡ suc j * 48 = omega arith in
-    ap (λ (l : List ℕ). recordSound t (take 48 l)) (sym (drop-drop (j * 48) 48 rows ∙ ap (λ (k : ℕ). drop k rows) q))
-    ∙ record-sound t n (drop 48 rows) j (le-of-suc-le-suc h) (both (recordSound t (take 48 rows)) (recordsSound t n (drop 48 rows)) e .1)
 
 module _ (t rows : List ℕ) (from to i : ℕ) (l : from ≤ i) (h : i < to) where
   -- a record behind others
@@ -219,7 +198,7 @@ module _ (t rows : List ℕ) (from to i : ℕ) (l : from ≤ i) (h : i < to) whe
 
   -- record i is sound
   pub sound-at : recordsSound t (to - from) (drop (from * 48) rows) ≡ true → recordSound t (recordAt rows i) ≡ true
-  sound-at e = ap (recordSound t) (sym behind) ∙ record-sound t (to - from) (drop (from * 48) rows) (i - from) (omega arith) e
+  sound-at e = ap (recordSound t) (sym behind) ∙ each-sound t (to - from) (drop (from * 48) rows) (i - from) (omega arith) e
 
   -- and row i is the next one
   between-next : drop (i - from) (rowsBetween t rows from to) ≡ showRow t (recordAt rows i) ∷ drop (i + 1 - from) (rowsBetween t rows from to)

@@ -1,7 +1,7 @@
 -- Spelled: pieces laid one behind the other, and the attributes of fields as such pieces.
 -- Assumes nothing.
 use mathlib.Core.Path.{_≡_, refl, sym, ap, _∙_}
-use mathlib.Core.Bool.{Bool, true, false, _&&_}
+use mathlib.Core.Bool.{Bool, true, false}
 use mathlib.Core.List.{List, [], _∷_, _++_, append-nil, append-assoc}
 use Prim.Native.Nat.{ℕ, zero, suc, _+_, _*_, _-_, _/_, _%_, _≤_, _<_}
 use native.Mathlib.Nat.{zero-add, not-suc-le-zero, le-of-suc-le-suc}
@@ -10,7 +10,7 @@ use native.Mathlib.Omega.{arith}
 use lib.Dec.{ltb}
 use lib.ListN.{length, take, drop, getD, set, length-take, length-drop, length-append}
 use lib.Seq.{slice, drop-cons}
-use borrow.Author.Tests.{eq-eqb, ne-eqb, ltb-true}
+use borrow.Author.Tests.{ne-eqb, ltb-true}
 use Rattle.paper.specs.Lists.{if, every}
 use Rattle.paper.specs.Fields.{Field, table}
 use Rattle.paper.specs.Values.{esc, escape}
@@ -22,7 +22,7 @@ use Rattle.fields.specs.Places.{noField, fieldAt, nameOf}
 use Rattle.fields.specs.Columns.{keyColumn}
 use Rattle.fields.proofs.ColumnLaws.{letters-at, key-length}
 use Rattle.fields.proofs.TableLaws.{letters-back}
-use Rattle.plan.specs.Numbers.{absent, within}
+use Rattle.plan.specs.Numbers.{within}
 use Rattle.listing.specs.Written.{Wrote}
 use Rattle.listing.specs.Numbered.{spanAt, spansAt, fieldsFrom}
 use Rattle.listing.proofs.Pieces.{Fits, Going, going-fits, going-on, going-done, byte-written}
@@ -233,35 +233,3 @@ module _ (keys t l : List ℕ) (first n k i : ℕ) (e : keys ≡ keyColumn) (h :
 
   pub field-inside : every (within (length t)) (spansAt n k l) ≡ true → within (length t) (spanOf l (k + 2 * i)) ≡ true
   field-inside w = ap (within (length t)) (span-of l (k + 2 * i)) ∙ each-at (within (length t)) l n k i j w
-
--- the next span decides whether none is present
-next-absent : (l : List ℕ) (n k i : ℕ) → i < n → every absent (spansAt (n - i) (k + 2 * i) l) ≡ (absent (spanAt l (k + 2 * i)) && every absent (spansAt (n - (i + 1)) (k + 2 * (i + 1)) l))
-unfolding spansAt
-next-absent l n k i h =
-    let a : n - i ≡ suc (n - (i + 1)) = omega arith in
-    let c : k + 2 * (i + 1) ≡ suc (suc (k + 2 * i)) = omega arith in
-    rw (a, c)
-
-pub none-absent : (l : List ℕ) (n k i : ℕ) → n ≤ i → every absent (spansAt (n - i) (k + 2 * i) l) ≡ true
-unfolding spansAt
-none-absent l n k i h = let a : n - i ≡ 0 = omega arith in rw a
-
--- before the first span none has been looked at
-pub all-left : (l : List ℕ) (n k : ℕ) → every absent (spansAt n k l) ≡ every absent (spansAt (n - 0) (k + 2 * 0) l)
-all-left l n k =
-    let a : n - 0 ≡ n = omega arith in
-    let c : k + 2 * 0 ≡ k = omega arith in
-    rw (a, c)
-
-module _ (l : List ℕ) (n k i : ℕ) (h : i < n) where
-  -- a present one ends the search
-  pub absent-stop : (getD l (k + 2 * i + 1) 0 ≡ 0 → ⊥) → every absent (spansAt (n - i) (k + 2 * i) l) ≡ false
-  absent-stop z =
-      let e : absent (spanAt l (k + 2 * i)) ≡ false = ap absent (sym (span-of l (k + 2 * i))) ∙ ne-eqb (getD l (k + 2 * i + 1) 0) 0 z in
-      next-absent l n k i h ∙ ap (λ (b : Bool). b && every absent (spansAt (n - (i + 1)) (k + 2 * (i + 1)) l)) e
-
-  -- an absent one leaves it to the others
-  pub absent-on : getD l (k + 2 * i + 1) 0 ≡ 0 → every absent (spansAt (n - i) (k + 2 * i) l) ≡ every absent (spansAt (n - (i + 1)) (k + 2 * (i + 1)) l)
-  absent-on z =
-      let e : absent (spanAt l (k + 2 * i)) ≡ true = ap absent (sym (span-of l (k + 2 * i))) ∙ eq-eqb (getD l (k + 2 * i + 1) 0) 0 z in
-      next-absent l n k i h ∙ ap (λ (b : Bool). b && every absent (spansAt (n - (i + 1)) (k + 2 * (i + 1)) l)) e

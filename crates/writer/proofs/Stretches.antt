@@ -6,16 +6,12 @@ use mathlib.Core.List.{List, _∷_, _++_}
 use Prim.Native.Nat.{ℕ, zero, suc, _+_, _*_, _-_, _≤_}
 use native.Mathlib.Omega.{arith}
 use lib.ListN.{take, drop}
-use lib.Seq.{drop-drop}
 use Rattle.paper.specs.Lists.{if}
 use Rattle.paper.specs.Plan.{Row}
 use Rattle.paper.proofs.Small.{both}
 use Rattle.plan.specs.Numbers.{showRow, showRows}
+use Rattle.plan.proofs.Stores.{records-behind}
 use Rattle.sound.specs.Sound.{recordSound, recordsSound, firstBadIn}
-
--- the records behind the first ones
-past : (m : ℕ) (rows : List ℕ) → drop (m * 48) (drop 48 rows) ≡ drop (suc m * 48) rows
-past m rows = let e : 48 + m * 48 ≡ suc m * 48 = omega arith in drop-drop (m * 48) 48 rows ∙ ap (λ (k : ℕ). drop k rows) e
 
 -- of sound records the first ones are sound, and those behind them
 records-split : (t : List ℕ) (m n k : ℕ) (rows : List ℕ) → k ≡ m + n → recordsSound t k rows ≡ true → (recordsSound t m rows ≡ true) × (recordsSound t n (drop (m * 48) rows) ≡ true)
@@ -24,7 +20,7 @@ records-split t (suc m) n zero rows q e = absurd (omega arith)
 records-split t (suc m) n (suc k) rows q e =
     let (a, b) = both (recordSound t (take 48 rows)) (recordsSound t k (drop 48 rows)) e in
     let (c, d) = records-split t m n k (drop 48 rows) (omega arith) b in
-    (rw (a, c), ap (recordsSound t n) (sym (past m rows)) ∙ d)
+    (rw (a, c), ap (recordsSound t n) (sym (records-behind m rows)) ∙ d)
 
 -- the records from one on up to another are sound
 pub records-between : (t : List ℕ) (n : ℕ) (rows : List ℕ) (from to : ℕ) → from ≤ to → to ≤ n → recordsSound t n rows ≡ true → recordsSound t (to - from) (drop (from * 48) rows) ≡ true
@@ -36,7 +32,7 @@ pub rows-split : (t : List ℕ) (m n k : ℕ) (rows : List ℕ) → k ≡ m + n 
 rows-split t zero n k rows q = let r : k ≡ n = omega arith in ap (λ (j : ℕ). showRows t j rows) r
 rows-split t (suc m) n zero rows q = absurd (omega arith)
 rows-split t (suc m) n (suc k) rows q =
-    ap (λ (l : List Row). showRow t (take 48 rows) ∷ l) (rows-split t m n k (drop 48 rows) (omega arith) ∙ ap (λ (r : List ℕ). showRows t m (drop 48 rows) ++ showRows t n r) (past m rows))
+    ap (λ (l : List Row). showRow t (take 48 rows) ∷ l) (rows-split t m n k (drop 48 rows) (omega arith) ∙ ap (λ (r : List ℕ). showRows t m (drop 48 rows) ++ showRows t n r) (records-behind m rows))
 
 -- the first bad row is one of them
 pub bad-row : (k : ℕ) (t : List ℕ) (n : ℕ) (rows : List ℕ) → firstBadIn k t n rows ≤ k + n

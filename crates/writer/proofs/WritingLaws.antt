@@ -8,6 +8,7 @@ use native.Mathlib.Omega.{arith}
 use lib.Dec.{leb}
 use lib.ListN.{length, take, replicate}
 use borrow.Author.Tests.{leb-true, le-leb, lt-leb}
+use Rattle.paper.specs.Reading.{numbers}
 use Rattle.paper.specs.Lists.{if, concat}
 use Rattle.paper.specs.Plan.{Head, Row}
 use Rattle.paper.specs.Plan as Said
@@ -16,15 +17,15 @@ use Rattle.paper.proofs.Small.{both, and-intro}
 use Rattle.paper.proofs.BySize.{base, greedy, laySized, sized}
 use Rattle.paper.proofs.Same.{fresh-sized}
 use Rattle.paper.proofs.Writer as Room
-use Rattle.plan.specs.Numbers.{showHead, showRows, showPlan, padded}
+use Rattle.plan.specs.Numbers.{rowsLent, showHead, showRows, showPlan, padded}
 use Rattle.plan.specs.declared.Plan.{Plan}
 use Rattle.plan.proofs.Shown.{rows-shown}
 use Rattle.markup.specs.Laid.{laid}
 use Rattle.sound.proofs.SoundLaws.{no-bad-row, plan-sound}
 use Rattle.sound.specs.Sound.{headSound, recordsSound, firstBadIn}
-use Rattle.writer.specs.Answers.{numbersOf, numbers}
+use Rattle.writer.specs.Answers.{numbersOf}
 use Rattle.writer.specs.Cutting.{measureOf, Cutting, ends, stuck, cutOf, Tells, Rising, parted}
-use Rattle.writer.specs.Promise.{rowsLent, callFits, answered, Promised}
+use Rattle.writer.specs.Promise.{callFits, answered, Promised}
 use Rattle.writer.specs.declared.answer.Outcome.the-variants.{Pages}
 use Rattle.writer.specs.declared.cut.PageEnds.{PageEnds}
 use Rattle.writer.specs.declared.writing.Writing.{Writing}

@@ -1,18 +1,8 @@
 -- Answers: document 01, "Refusal numbers and their order". The number, page and place of each answer that writing gives.
 -- Assumes nothing.
-use Prim.Native.Nat.{ℕ}
+use Rattle.paper.specs.Reading.{Numbers, numbers}
 use Rattle.writer.specs.declared.answer.Outcome.{Outcome}
 use Rattle.writer.specs.declared.answer.Outcome.the-variants.{Pages, NoRoom, Unsound, TooLong}
-
--- "An answer carries number, page, place."
-pub record Numbers : Type 0 where
-  pub number : ℕ
-  pub page : ℕ
-  pub place : ℕ
-
--- three numbers of an answer
-abbrev pub numbers : ℕ → ℕ → ℕ → Numbers
-numbers n k i = record { number = n; page = k; place = i }
 
 -- the table of refusals: what each case carries; pages are 0, 0, 0
 abbrev pub numbersOf : Outcome → Numbers

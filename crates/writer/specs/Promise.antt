@@ -4,25 +4,22 @@
 use mathlib.Core.Path.{_≡_}
 use mathlib.Core.Bool.{Bool, _&&_}
 use mathlib.Core.List.{List, map}
-use Prim.Native.Nat.{ℕ, _/_}
+use Prim.Native.Nat.{ℕ}
 use lib.Dec.{leb}
 use lib.ListN.{length, replicate}
 use Rattle.paper.specs.Lists.{if, concat}
+use Rattle.paper.specs.Reading.{numbers}
 use Rattle.paper.specs.Calls.{rowRoom, pageRoom}
 use Rattle.paper.specs.Writing.{Written, tooMany, unsound, tooLong, written, fresh}
 use Rattle.markup.specs.Laid.{laid}
-use Rattle.plan.specs.Numbers.{showPlan, padded}
+use Rattle.plan.specs.Numbers.{rowsLent, showPlan, padded}
 use Rattle.plan.specs.declared.Plan.{Plan}
 use Rattle.sound.specs.Sound.{numbersSound, badPlace}
-use Rattle.writer.specs.Answers.{numbersOf, numbers}
+use Rattle.writer.specs.Answers.{numbersOf}
 use Rattle.writer.specs.declared.answer.Outcome.the-variants.{Pages}
 use Rattle.writer.specs.declared.writing.Writing.{Writing}
 
 -- ---- document 01's answer
-
--- how many rows so many numbers are: a row is a record of 48 numbers
-abbrev pub rowsLent : ℕ → ℕ
-rowsLent numbers = numbers / 48
 
 -- "room too small, for the writer a row count above 256 or above the rows lent": with so many rows counted and lent, and so many bytes of room, it is none of these
 unfoldable pub callFits : ℕ → ℕ → ℕ → Bool

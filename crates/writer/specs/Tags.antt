@@ -62,9 +62,9 @@ medicationText t rows i = bytes "<M" ++ (attribute (bytes "p") (decimal (getD (r
 
 -- ---- the head
 
--- the start tag of MP on page a of z; the spans of U and l stand first among the numbers
+-- the start tag of MP on page a of z; the spans of U and l stand from place 2 of the numbers on
 unfoldable pub startText : ℕ → ℕ → ℕ → List ℕ → List ℕ → List ℕ
-startText patch a z t l = bytes "<MP v=\"027\"" ++ (attribute (bytes "p") (decimal patch) ++ (fieldsText 2 2 t 0 l
+startText patch a z t l = bytes "<MP v=\"027\"" ++ (attribute (bytes "p") (decimal patch) ++ (fieldsText 2 2 t 2 l
     ++ (32 ∷ 97 ∷ 61 ∷ 34 ∷ (48 + a) ∷ 34 ∷ 32 ∷ 122 ∷ 61 ∷ 34 ∷ (48 + z) ∷ 34 ∷ 62 ∷ [])))
 
 -- O, if it has a field; its spans begin at place k

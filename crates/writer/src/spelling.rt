@@ -20,15 +20,15 @@ use crate::tags::lay_field;
 use crate::tags::lay_fields;
 use crate::tags::lay_number;
 use crate::tags::lay_tag;
-use crate::tags::none_present;
 use fields::lookup::keys;
-use listing::elements::head_numbers;
 use markup::values::lay;
 use plan::Dose;
 use plan::Kind;
 use plan::Plan;
+use plan::head_numbers;
 use plan::kind_at;
 use plan::row_at;
+use sound::elements::all_absent;
 
 // Places in the table: U of MP, and the first fields of P, A, O and S; of M a, the four times of day, the free text and du; the first fields of W, R and X.
 const MP_U: usize = 2;
@@ -190,7 +190,7 @@ pub fn lay_row(out: &mut [u8], at: usize, rows: &[u32], i: usize, text: &[u8]) -
     lay_kind(out, at, &keys, kind, rows, i, text)
 }
 
-// Writes the start tag of MP on page a of z; the spans of U and l stand first among the numbers.
+// Writes the start tag of MP on page a of z; the spans of U and l stand from place 2 of the numbers on.
 fn lay_start(
     out: &mut [u8],
     at: usize,
@@ -204,14 +204,14 @@ fn lay_start(
     requires { ⌜ (now keys ≡ keyColumn)
         × (a ≤ 9)
         × (z ≤ 9)
-        × (4 ≤ length (now numbers))
-        × (every (within (length (now text))) (spansAt 2 0 (now numbers)) ≡ true)
+        × (6 ≤ length (now numbers))
+        × (every (within (length (now text))) (spansAt 2 2 (now numbers)) ≡ true)
         × (at + length (startText patch a z (now text) (now numbers)) ≤ length (now out)) ⌝ }
     ensures { λ r. ⌜ Wrote (now (out .entry)) (now (out .exit)) at r (startText patch a z (now (text .entry)) (now (numbers .entry))) ⌝ }
 {
     let begun = lay(out, at, b"<MP v=\"027\"");
     let patched = lay_number(out, begun, patch);
-    let named = lay_fields(out, patched, keys, MP_U, 2, text, numbers, 0);
+    let named = lay_fields(out, patched, keys, MP_U, 2, text, numbers, 2);
     let last = [
         b' ',
         b'a',
@@ -230,25 +230,18 @@ fn lay_start(
     lay(out, named, &last)
 }
 
-// Writes O, whose spans begin at place `from` of the numbers, if it has a field.
-fn lay_measures(
-    out: &mut [u8],
-    at: usize,
-    keys: &[u64],
-    text: &[u8],
-    numbers: &[u32],
-    from: usize,
-) -> usize
+// Writes O, if it has a field. Its spans are those from span 20 of the head on.
+fn lay_measures(out: &mut [u8], at: usize, keys: &[u64], text: &[u8], numbers: &[u32]) -> usize
     requires { ⌜ (now keys ≡ keyColumn)
-        × (from + 14 ≤ length (now numbers))
-        × (every (within (length (now text))) (spansAt 7 from (now numbers)) ≡ true)
-        × (at + length (measuresPart (now text) from (now numbers)) ≤ length (now out)) ⌝ }
-    ensures { λ r. ⌜ Wrote (now (out .entry)) (now (out .exit)) at r (measuresPart (now (text .entry)) from (now (numbers .entry))) ⌝ }
+        × (56 ≤ length (now numbers))
+        × (every (within (length (now text))) (spansAt 7 42 (now numbers)) ≡ true)
+        × (at + length (measuresPart (now text) 42 (now numbers)) ≤ length (now out)) ⌝ }
+    ensures { λ r. ⌜ Wrote (now (out .entry)) (now (out .exit)) at r (measuresPart (now (text .entry)) 42 (now (numbers .entry))) ⌝ }
 {
-    if none_present(numbers, from, 7) {
+    if all_absent(numbers, 20, 7) {
         return at;
     }
-    lay_tag(out, at, b"<O", keys, O_AI, 7, text, numbers, from, b"/>")
+    lay_tag(out, at, b"<O", keys, O_AI, 7, text, numbers, 42, b"/>")
 }
 
 // Writes page a of z up to its rows.
@@ -271,9 +264,9 @@ fn lay_front(
     let head = plan.head;
     let numbers = head_numbers(head);
     let p = lay_start(out, at, keys, plan.patch, a, z, text, &numbers);
-    let b = lay_tag(out, p, b"<P", keys, P_G, 8, text, &numbers, 4, b"/>");
-    let o = lay_tag(out, b, b"<A", keys, A_LANR, 10, text, &numbers, 20, b"/>");
-    lay_measures(out, o, keys, text, &numbers, 40)
+    let b = lay_tag(out, p, b"<P", keys, P_G, 8, text, &numbers, 6, b"/>");
+    let o = lay_tag(out, b, b"<A", keys, A_LANR, 10, text, &numbers, 22, b"/>");
+    lay_measures(out, o, keys, text, &numbers)
 }
 
 // Whether a row of this kind is a heading.

@@ -13,7 +13,7 @@ ghost use Rattle.paper.specs.Layout.{shown};
 ghost use Rattle.paper.specs.Writing.{decimal};
 ghost use Rattle.fields.specs.Places.{nameOf};
 ghost use Rattle.fields.specs.Columns.{keyColumn};
-ghost use Rattle.plan.specs.Numbers.{within, paperSpan, absent};
+ghost use Rattle.plan.specs.Numbers.{within, paperSpan};
 ghost use Rattle.listing.specs.Written.{Wrote};
 ghost use Rattle.listing.specs.Numbered.{spansAt};
 ghost use Rattle.writer.specs.Tags.{quoted, attribute, fieldsText, tagText};
@@ -171,20 +171,4 @@ pub fn lay_tag(
     let a = values::lay(out, at, begin);
     let b = lay_fields(out, a, keys, first, count, text, numbers, from);
     values::lay(out, b, end)
-}
-
-// Whether none of `count` spans is present, the first of which stands at place `from` of the numbers.
-pub fn none_present(numbers: &[u32], from: usize, count: usize) -> bool
-    requires { ⌜ from + 2 * count ≤ length (now numbers) ⌝ }
-    ensures { λ r. ⌜ r ≡ every absent (spansAt count from (now (numbers .entry))) ⌝ }
-{
-    let mut i = 0;
-    while i < count {
-        let k = from + 2 * i;
-        if numbers[k + 1] != 0 {
-            return false;
-        }
-        i += 1;
-    }
-    true
 }

@@ -11,9 +11,10 @@ use borrow.Author.Needs.{needs}
 use borrow.Author.Tests.{not-true, not-false}
 use Rattle.paper.specs.Calls.{roomy}
 use Rattle.paper.specs.Reading as Paper
+use Rattle.paper.specs.Reading.{numbers}
 use Rattle.plan.specs.Records.{emptyPlan}
-use Rattle.reader.specs.Answers.{numbersOf, numbers}
-use Rattle.reader.specs.Lent.{rowsLent}
+use Rattle.plan.specs.Numbers.{rowsLent}
+use Rattle.reader.specs.Answers.{numbersOf}
 use Rattle.reader.specs.Promise.{Promised, answered}
 use Rattle.reader.specs.declared.reading.Reading.{Reading}
 use Rattle.reader.proofs.ReadingLaws.{refuses}

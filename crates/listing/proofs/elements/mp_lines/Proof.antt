@@ -18,12 +18,12 @@ fit : (S : tie.Start) → Fits (S .args .out .now) (S .args .at) (print (mpLines
 fit S = record { inside = S .pre .2 }
 
 -- the patch and what is behind it fit
-patch-fits : (c : tie.After-text-line) → let S = c .before .before .before .before .before .before .before in Fits (c .text-line .last .0) (c .text-line .result) (print ((given (bytes "MP.p") (decimal (S .args .patch))) ++ (linesOf (bytes "MP.") 2 2 (S .args .text .now) 0 (S .args .numbers .now))))
-patch-fits c = let S = c .before .before .before .before .before .before .before in other-lines (line (bytes "MP.v") edition ∷ []) ((given (bytes "MP.p") (decimal (S .args .patch))) ++ (linesOf (bytes "MP.") 2 2 (S .args .text .now) 0 (S .args .numbers .now))) (fit S) (c .text-line .ensures)
+patch-fits : (c : tie.After-text-line) → let S = c .before .before .before .before .before .before .before in Fits (c .text-line .last .0) (c .text-line .result) (print ((given (bytes "MP.p") (decimal (S .args .patch))) ++ (linesOf (bytes "MP.") 2 2 (S .args .text .now) 2 (S .args .numbers .now))))
+patch-fits c = let S = c .before .before .before .before .before .before .before in other-lines (line (bytes "MP.v") edition ∷ []) ((given (bytes "MP.p") (decimal (S .args .patch))) ++ (linesOf (bytes "MP.") 2 2 (S .args .text .now) 2 (S .args .numbers .now))) (fit S) (c .text-line .ensures)
 
 -- U and l fit
-rest-fits : (c : tie.After-number-line) → let S = c .before .before .before .before .before .before .before .before .before .before .before .before in Fits (c .number-line .last .0) (c .number-line .result) (print (linesOf (bytes "MP.") 2 2 (S .args .text .now) 0 (S .args .numbers .now)))
-rest-fits c = let S = c .before .before .before .before .before .before .before .before .before .before .before .before in other-lines (given (bytes "MP.p") (decimal (S .args .patch))) (linesOf (bytes "MP.") 2 2 (S .args .text .now) 0 (S .args .numbers .now)) (patch-fits (c .before .before .before .before .before)) (c .number-line .ensures)
+rest-fits : (c : tie.After-number-line) → let S = c .before .before .before .before .before .before .before .before .before .before .before .before in Fits (c .number-line .last .0) (c .number-line .result) (print (linesOf (bytes "MP.") 2 2 (S .args .text .now) 2 (S .args .numbers .now)))
+rest-fits c = let S = c .before .before .before .before .before .before .before .before .before .before .before .before in other-lines (given (bytes "MP.p") (decimal (S .args .patch))) (linesOf (bytes "MP.") 2 2 (S .args .text .now) 2 (S .args .numbers .now)) (patch-fits (c .before .before .before .before .before)) (c .number-line .ensures)
 
 slice-aggregate-text-line : tie.Need-slice-aggregate-text-line
 slice-aggregate-text-line c = search needs
@@ -38,7 +38,7 @@ slice-aggregate-number-line : tie.Need-slice-aggregate-number-line
 slice-aggregate-number-line c = search needs
 
 number-line-requires : tie.Need-number-line-requires
-number-line-requires c κs = let T = c .before .before .before .before in let S = T .before .before .before .before .before .before .before in first-lines (given (bytes "MP.p") (decimal (S .args .patch))) (linesOf (bytes "MP.") 2 2 (S .args .text .now) 0 (S .args .numbers .now)) (patch-fits T) .inside
+number-line-requires c κs = let T = c .before .before .before .before in let S = T .before .before .before .before .before .before .before in first-lines (given (bytes "MP.p") (decimal (S .args .patch))) (linesOf (bytes "MP.") 2 2 (S .args .text .now) 2 (S .args .numbers .now)) (patch-fits T) .inside
 
 slice-aggregate-fields : tie.Need-slice-aggregate-fields
 slice-aggregate-fields c = search needs
@@ -55,7 +55,7 @@ returns c =
     let N = F .before .before .before .before .before in
     let T = N .before .before .before .before .before in
     let S = T .before .before .before .before .before .before .before in
-    lines-written (line (bytes "MP.v") edition ∷ []) ((given (bytes "MP.p") (decimal (S .args .patch))) ++ (linesOf (bytes "MP.") 2 2 (S .args .text .now) 0 (S .args .numbers .now))) (fit S) (T .text-line .ensures) (lines-written (given (bytes "MP.p") (decimal (S .args .patch))) (linesOf (bytes "MP.") 2 2 (S .args .text .now) 0 (S .args .numbers .now)) (patch-fits T) (N .number-line .ensures) (F .fields .ensures))
+    lines-written (line (bytes "MP.v") edition ∷ []) ((given (bytes "MP.p") (decimal (S .args .patch))) ++ (linesOf (bytes "MP.") 2 2 (S .args .text .now) 2 (S .args .numbers .now))) (fit S) (T .text-line .ensures) (lines-written (given (bytes "MP.p") (decimal (S .args .patch))) (linesOf (bytes "MP.") 2 2 (S .args .text .now) 2 (S .args .numbers .now)) (patch-fits T) (N .number-line .ensures) (F .fields .ensures))
 
 pub mp-lines-spec : {M : Type 1} → statement M
 mp-lines-spec =

@@ -9,7 +9,8 @@ use Rattle.plan.specs.Numbers.{recordAt, showRow}
 use Rattle.plan.specs.Records.{paperKind}
 use Rattle.listing.specs.Numbered.{plainRow, medicationRow}
 use Rattle.listing.proofs.Pieces.{Fits, fits-as, wrote-as}
-use Rattle.listing.proofs.Rowed.{kind-is, plain-is, medication-is, row-fields}
+use Rattle.plan.proofs.Kept.{kind-is}
+use Rattle.listing.proofs.Rowed.{plain-is, medication-is, row-fields}
 use borrow.Author.Needs.{needs}
 use Rattle.listing.proofs.rows.row_lines.Statement.{statement}
 use Rattle.listing.proofs.rows.row_lines.Tie as tie

@@ -5,7 +5,7 @@ use native.Mathlib.Omega.{arith}
 use lib.ListN.{length}
 use Rattle.paper.specs.Calls.{pagesAt}
 use Rattle.reader.specs.Joining.{Called}
-use Rattle.reader.proofs.CallFacts.{pages-count}
+use Rattle.paper.proofs.CallLaws.{pages-count}
 use Rattle.reader.proofs.JoiningLaws.{page-fits, head-place, rows-place, rows-few, plan-made}
 use borrow.Author.Needs.{needs}
 use Rattle.reader.proofs.joining.fill_all.Statement.{statement}
@@ -33,7 +33,7 @@ lay-head-requires c κs =
     let S = Q .before .before .before .before .before .before in
     let a = S .args in
     let h = S .pre .0 in
-    let F = page-fits (a .buffer .now) (a .starts .now) (a .lens .now) 0 _ (called S) (omega arith) (Q .page-at .ensures) in
+    let F = page-fits {i = 0} (called S) (omega arith) (Q .page-at .ensures) in
     (F .short, F .short, F .fit, head-place (pagesAt (a .buffer .now) (a .starts .now) (a .lens .now)) (a .z) (paged S) (S .pre .5) _ _ (Q .page-at .ensures) (S .pre .9) (S .pre .10))
 
 fill-pages-requires : tie.Need-fill-pages-requires

@@ -35,13 +35,13 @@ returns : tie.Need-returns
 returns c =
     let P = c .before in
     let S = entry P in
-    let a = S .args in fills-empty _ (a .text .now) (a .rows .now) (a .n) (a .i) (no-page (a .buffer .now) (a .starts .now) (a .lens .now) (S .pre .1) (a .k) _ (place P) (c .if1 .taken)) (S .pre .3) (S .pre .4)
+    let a = S .args in fills-empty _ (a .text .now) (a .rows .now) (a .n) (a .i) (no-page (S .pre .1) (a .k) (place P) (c .if1 .taken)) (S .pre .3) (S .pre .4)
 
 page-at-requires : tie.Need-page-at-requires
 page-at-requires c κs =
     let P = c .before in
     let S = entry P in
-    let a = S .args in (page-there (a .buffer .now) (a .starts .now) (a .lens .now) (S .pre .1) (a .k) _ (place P) (c .if1 .left), S .pre .1 .lie)
+    let a = S .args in (page-there (S .pre .1) (a .k) (place P) (c .if1 .left), S .pre .1 .lie)
 
 slice-aggregate-fill-rows : tie.Need-slice-aggregate-fill-rows
 slice-aggregate-fill-rows c = search needs
@@ -53,8 +53,8 @@ fill-rows-requires c κs =
     let P = E .before in
     let S = entry P in
     let a = S .args in
-    let F = page-fits (a .buffer .now) (a .starts .now) (a .lens .now) (P .page-of .result) _ (S .pre .1) (page-there (a .buffer .now) (a .starts .now) (a .lens .now) (S .pre .1) (a .k) _ (place P) (E .if1 .left)) (Q .page-at .ensures) in
-    let q = page-rows (a .buffer .now) (a .starts .now) (a .lens .now) (S .pre .1) (a .k) _ (place P) (E .if1 .left) _ (Q .page-at .ensures) in
+    let F = page-fits (S .pre .1) (page-there (S .pre .1) (a .k) (place P) (E .if1 .left)) (Q .page-at .ensures) in
+    let q = page-rows (S .pre .1) (a .k) (place P) (E .if1 .left) (Q .page-at .ensures) in
     (F .short, F .short, F .fit, subst (λ (r : List Row). Room (rowsValues r) (a .text .now) (a .n)) q (S .pre .3), records-of _ _ (a .i) (length (a .rows .now)) q (S .pre .4))
 
 same-length : tie.Need-same-length
@@ -71,7 +71,7 @@ returns-2 c =
     let P = E .before in
     let S = entry P in
     let a = S .args in
-    let q = page-rows (a .buffer .now) (a .starts .now) (a .lens .now) (S .pre .1) (a .k) _ (place P) (E .if1 .left) _ (Q .page-at .ensures) in
+    let q = page-rows (S .pre .1) (a .k) (place P) (E .if1 .left) (Q .page-at .ensures) in
     subst (λ (r : List Row). Fills r (a .text .now) (R .fill-rows .last .1 .1 .1 .0) (a .n) (R .fill-rows .result .end) (a .rows .now) (R .fill-rows .last .1 .1 .0) (a .i) (R .fill-rows .result .row)) (sym q) (R .fill-rows .ensures)
 
 pub fill-number-spec : {M : Type 1} → statement M

@@ -6,28 +6,25 @@ use native.Mathlib.Omega.{arith}
 use lib.ListN.{length}
 use Rattle.paper.specs.Calls.{pagesAt}
 use Rattle.paper.proofs.Small.{no-not}
-use Rattle.reader.proofs.CallFacts.{pages-count}
-use Rattle.reader.proofs.JoiningLaws.{AlikeTo, alike-one, alike-more, other-here, none-other, not-false}
+use Rattle.paper.proofs.CallLaws.{pages-count}
+use Rattle.sheet.proofs.HeadLaws.{not-false}
+use Rattle.reader.proofs.JoiningLaws.{AlikeTo, alike-one, alike-more, other-here, none-other}
 use borrow.Author.Needs.{needs}
 use Rattle.reader.proofs.joining.first_other.Statement.{statement}
 use Rattle.reader.proofs.joining.first_other.Tie as tie
 
 abbrev Inv-loop : tie.InvT-loop
-Inv-loop b ss ns n i₀ i = (1 ≤ i) × (i ≤ length ss) × AlikeTo (pagesAt b ss ns) i
+Inv-loop b ss ns n i₀ i = (1 ≤ i) × (i ≤ length ss) × (length (pagesAt b ss ns) ≡ length ss) × AlikeTo (pagesAt b ss ns) i
 
 abbrev μ-loop : tie.MeasureT-loop
 μ-loop b ss ns n i₀ i = length ss - i
-
--- as many pages as starts
-paged : (S : tie.Start Inv-loop μ-loop) → length (pagesAt (S .args .buffer .now) (S .args .starts .now) (S .args .lens .now)) ≡ length (S .args .starts .now)
-paged S = pages-count (S .args .buffer .now) (S .args .starts .now) (S .args .lens .now) (S .pre .2 .lie)
 
 loop-holds : tie.Need-loop-holds Inv-loop μ-loop
 loop-holds c =
     let S = c .before .before .before in
     let a = S .args in
-    let h = paged S in
-    let g = S .pre .0 in (search needs, search needs, alike-one (pagesAt (a .buffer .now) (a .starts .now) (a .lens .now)) (omega arith))
+    let h = pages-count (a .buffer .now) (a .starts .now) (a .lens .now) (S .pre .2 .lie) in
+    (search needs, search needs, h, alike-one (pagesAt (a .buffer .now) (a .starts .now) (a .lens .now)) (omega (arith, h, S .pre .0)))
 
 like-first-requires : tie.Need-like-first-requires Inv-loop μ-loop
 like-first-requires c κs =
@@ -39,13 +36,8 @@ add-result c = search needs
 
 returns : tie.Need-returns Inv-loop μ-loop
 returns c =
-    let I = c .before .before in
-    let L = I .before in
-    let S = L .before .before .before .before in
-    let a = S .args in
-    let h = paged S in
-    let t = I .loop-test .taken in
-    sym (other-here (pagesAt (a .buffer .now) (a .starts .now) (a .lens .now)) (L .loop .i) (omega arith) (L .loop .inv .2) (sym (c .before .like-first .ensures) ∙ no-not _ (c .if1 .taken)))
+    let L = c .before .before .before in
+    sym (other-here _ (L .loop .i) (search needs) (L .loop .inv .3) (sym (c .before .like-first .ensures) ∙ no-not _ (c .if1 .taken)))
 
 add-i : tie.Need-add-i Inv-loop μ-loop
 add-i c = search needs
@@ -55,21 +47,11 @@ loop-less c = search needs
 
 loop-again : tie.Need-loop-again Inv-loop μ-loop
 loop-again c =
-    let I = c .before .before in
-    let L = I .before in
-    let S = L .before .before .before .before in
-    let a = S .args in
-    let h = paged S in
-    let t = I .loop-test .taken in
-    (search needs, search needs, alike-more (pagesAt (a .buffer .now) (a .starts .now) (a .lens .now)) (L .loop .i) (omega arith) (L .loop .inv .2) (sym (c .before .like-first .ensures) ∙ not-false _ (c .if1 .left)))
+    let L = c .before .before .before in
+    let v = L .loop .inv in (search needs, search needs, v .2, alike-more _ (L .loop .i) (search needs) (v .3) (sym (c .before .like-first .ensures) ∙ not-false _ (c .if1 .left)))
 
 returns-2 : tie.Need-returns-2 Inv-loop μ-loop
-returns-2 c =
-    let L = c .before in
-    let S = L .before .before .before .before in
-    let a = S .args in
-    let h = paged S in
-    let t = c .loop-test .left in sym (none-other (pagesAt (a .buffer .now) (a .starts .now) (a .lens .now)) (L .loop .i) (omega arith) (L .loop .inv .2))
+returns-2 c = let L = c .before in sym (none-other _ (L .loop .i) (search needs) (L .loop .inv .3))
 
 pub first-other-spec : {M : Type 1} → statement M
 first-other-spec =

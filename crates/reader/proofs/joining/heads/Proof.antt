@@ -4,7 +4,7 @@ use mathlib.Core.Path.{_∙_}
 use native.Mathlib.Omega.{arith}
 use Rattle.paper.specs.Calls.{pagesAt}
 use Rattle.reader.specs.Joining.{Called}
-use Rattle.reader.proofs.CallFacts.{pages-count}
+use Rattle.paper.proofs.CallLaws.{pages-count}
 use Rattle.reader.proofs.JoiningLaws.{count-first}
 use Rattle.reader.proofs.joining.heads.Statement.{statement}
 use Rattle.reader.proofs.joining.heads.Tie as tie

@@ -34,9 +34,8 @@ same-heads-requires : tie.Need-same-heads-requires
 same-heads-requires c κs =
     let P = c .before in
     let S = P .before .before .before .before .before .before .before in
-    let a = S .args in
     let h = S .pre .0 in
-    (page-fits (a .buffer .now) (a .starts .now) (a .lens .now) 0 _ (S .pre .1) (omega arith) (P .page-at .ensures), page-fits (a .buffer .now) (a .starts .now) (a .lens .now) (a .i) _ (S .pre .1) h (c .page-at2 .ensures))
+    (page-fits {i = 0} (S .pre .1) (omega arith) (P .page-at .ensures), page-fits (S .pre .1) h (c .page-at2 .ensures))
 
 returns-2 : tie.Need-returns-2
 returns-2 c =

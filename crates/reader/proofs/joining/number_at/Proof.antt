@@ -22,16 +22,14 @@ number-of-requires : tie.Need-number-of-requires
 number-of-requires c κs =
     let P = c .before in
     let S = P .before .before .before .before in
-    let a = S .args in
-    let F = page-fits (a .buffer .now) (a .starts .now) (a .lens .now) (a .i) _ (S .pre .1) (S .pre .0) (P .page-at .ensures) in (F .short, F .short, F .fit)
+    let F = page-fits (S .pre .1) (S .pre .0) (P .page-at .ensures) in (F .short, F .short, F .fit)
 
 cast-result : tie.Need-cast-result
 cast-result c =
     let N = c .before in
     let P = N .before .before in
     let S = P .before .before .before .before in
-    let a = S .args in
-    let F = page-fits (a .buffer .now) (a .starts .now) (a .lens .now) (a .i) _ (S .pre .1) (S .pre .0) (P .page-at .ensures) in omega (arith, N .number-of .ensures, F .no-small)
+    let F = page-fits (S .pre .1) (S .pre .0) (P .page-at .ensures) in omega (arith, N .number-of .ensures, F .no-small)
 
 returns : tie.Need-returns
 returns c =

@@ -5,7 +5,7 @@ use Prim.Native.Nat.{_-_, _≤_}
 use native.Mathlib.Omega.{arith}
 use lib.ListN.{length, length-set}
 use Rattle.paper.specs.Calls.{pagesAt}
-use Rattle.reader.proofs.CallFacts.{pages-count}
+use Rattle.paper.proofs.CallLaws.{pages-count}
 use Rattle.reader.proofs.JoiningLaws.{Numbered, numbered-more, numbered-all}
 use borrow.Author.Needs.{needs}
 use Rattle.reader.proofs.joining.numbers.Statement.{statement}

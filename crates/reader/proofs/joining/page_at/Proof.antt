@@ -4,7 +4,7 @@ use mathlib.Core.Path.{refl}
 use Prim.Native.Nat.{_+_, _≤_}
 use native.Mathlib.Omega.{arith}
 use lib.ListN.{length, getD}
-use Rattle.reader.proofs.CallFacts.{inside-true}
+use Rattle.paper.proofs.CallLaws.{inside-true}
 use Rattle.reader.proofs.JoiningLaws.{part-at}
 use borrow.Author.Needs.{needs}
 use Rattle.reader.proofs.joining.page_at.Statement.{statement}

@@ -33,13 +33,13 @@ returns : tie.Need-returns
 returns c =
     let P = c .before in
     let S = entry P in
-    let a = S .args in (sym (ap (λ (l : List Row). length l) (no-page (a .buffer .now) (a .starts .now) (a .lens .now) (S .pre .1) (a .k) _ (place P) (c .if1 .taken))), search needs)
+    let a = S .args in (sym (ap (λ (l : List Row). length l) (no-page (S .pre .1) (a .k) (place P) (c .if1 .taken))), search needs)
 
 page-at-requires : tie.Need-page-at-requires
 page-at-requires c κs =
     let P = c .before in
     let S = entry P in
-    let a = S .args in (page-there (a .buffer .now) (a .starts .now) (a .lens .now) (S .pre .1) (a .k) _ (place P) (c .if1 .left), S .pre .1 .lie)
+    let a = S .args in (page-there (S .pre .1) (a .k) (place P) (c .if1 .left), S .pre .1 .lie)
 
 slice-aggregate-count-rows : tie.Need-slice-aggregate-count-rows
 slice-aggregate-count-rows c = search needs
@@ -51,7 +51,7 @@ count-rows-requires c κs =
     let P = E .before in
     let S = entry P in
     let a = S .args in
-    let F = page-fits (a .buffer .now) (a .starts .now) (a .lens .now) (P .page-of .result) _ (S .pre .1) (page-there (a .buffer .now) (a .starts .now) (a .lens .now) (S .pre .1) (a .k) _ (place P) (E .if1 .left)) (Q .page-at .ensures) in (F .short, F .short, F .fit)
+    let F = page-fits (S .pre .1) (page-there (S .pre .1) (a .k) (place P) (E .if1 .left)) (Q .page-at .ensures) in (F .short, F .short, F .fit)
 
 cast-result : tie.Need-cast-result
 cast-result c = search needs
@@ -64,7 +64,7 @@ returns-2 c =
     let P = E .before in
     let S = entry P in
     let a = S .args in
-    (N .count-rows .ensures ∙ sym (ap (λ (l : List Row). length l) (page-rows (a .buffer .now) (a .starts .now) (a .lens .now) (S .pre .1) (a .k) _ (place P) (E .if1 .left) _ (Q .page-at .ensures))), search needs)
+    (N .count-rows .ensures ∙ sym (ap (λ (l : List Row). length l) (page-rows (S .pre .1) (a .k) (place P) (E .if1 .left) (Q .page-at .ensures))), search needs)
 
 pub rows-of-spec : {M : Type 1} → statement M
 rows-of-spec =

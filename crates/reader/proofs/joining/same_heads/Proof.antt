@@ -4,7 +4,8 @@ use mathlib.Core.Path.{_≡_, refl, sym, ap, _∙_}
 use lib.ListN.{length}
 use Rattle.paper.specs.Lists.{same}
 use Rattle.paper.proofs.Small.{no-not}
-use Rattle.reader.proofs.JoiningLaws.{laid-two, other-patch, other-spans, by-rooms, head-room, whole-room, not-false}
+use Rattle.sheet.proofs.HeadLaws.{not-false}
+use Rattle.reader.proofs.JoiningLaws.{laid-two, other-patch, other-spans, by-rooms, head-room, whole-room}
 use borrow.Author.Needs.{needs}
 use Rattle.reader.proofs.joining.same_heads.Statement.{statement}
 use Rattle.reader.proofs.joining.same_heads.Tie as tie

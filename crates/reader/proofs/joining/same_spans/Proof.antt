@@ -1,9 +1,7 @@
 -- `sheet::joining::same_spans` meets its contract: the spans that are left decide.
 -- Assumes nothing.
-use mathlib.Core.Path.{_≡_, refl, sym}
+use mathlib.Core.Path.{refl, sym}
 use Prim.Native.Nat.{_-_, _≤_}
-use native.Mathlib.Omega.{arith}
-use lib.ListN.{length}
 use Rattle.reader.proofs.JoiningLaws.{SpansTo, spans-at, spans-len, spans-more, spans-all}
 use borrow.Author.Needs.{needs}
 use Rattle.reader.proofs.joining.same_spans.Statement.{statement}
@@ -32,24 +30,14 @@ array-copy-out-y c = search needs
 
 returns : tie.Need-returns Inv-loop μ-loop
 returns c =
-    let I = c .before .before .before .before .before in
-    let L = I .before in
-    let S = L .before in
-    let v : length (S .args .t1) ≡ 27 = search needs in
-    let w : length (S .args .t2) ≡ 27 = search needs in
-    let h = I .loop-test .taken in
-    sym (spans-at (S .args .t1) (S .args .t2) (L .loop .j) (omega arith) (omega arith) (L .loop .inv .1) (c .if1 .taken))
+    let L = c .before .before .before .before .before .before in
+    sym (spans-at _ _ (L .loop .j) (search needs) (search needs) (L .loop .inv .1) (c .if1 .taken))
 
 returns-2 : tie.Need-returns-2 Inv-loop μ-loop
 returns-2 c =
     let E = c .before .before .before in
-    let I = E .before .before .before .before .before in
-    let L = I .before in
-    let S = L .before in
-    let v : length (S .args .t1) ≡ 27 = search needs in
-    let w : length (S .args .t2) ≡ 27 = search needs in
-    let h = I .loop-test .taken in
-    sym (spans-len (S .args .t1) (S .args .t2) (L .loop .j) (omega arith) (omega arith) (L .loop .inv .1) (E .if1 .left) (c .if2 .taken))
+    let L = E .before .before .before .before .before .before in
+    sym (spans-len _ _ (L .loop .j) (search needs) (search needs) (L .loop .inv .1) (E .if1 .left) (c .if2 .taken))
 
 add-j : tie.Need-add-j Inv-loop μ-loop
 add-j c = search needs
@@ -60,22 +48,11 @@ loop-less c = search needs
 loop-again : tie.Need-loop-again Inv-loop μ-loop
 loop-again c =
     let E = c .before .before .before in
-    let I = E .before .before .before .before .before in
-    let L = I .before in
-    let S = L .before in
-    let v : length (S .args .t1) ≡ 27 = search needs in
-    let w : length (S .args .t2) ≡ 27 = search needs in
-    let h = I .loop-test .taken in
-    (search needs, spans-more (S .args .t1) (S .args .t2) (L .loop .j) (omega arith) (omega arith) (L .loop .inv .1) (E .if1 .left) (c .if2 .left))
+    let L = E .before .before .before .before .before .before in
+    (search needs, spans-more _ _ (L .loop .j) (search needs) (search needs) (L .loop .inv .1) (E .if1 .left) (c .if2 .left))
 
 returns-3 : tie.Need-returns-3 Inv-loop μ-loop
-returns-3 c =
-    let L = c .before in
-    let S = L .before in
-    let v : length (S .args .t1) ≡ 27 = search needs in
-    let w : length (S .args .t2) ≡ 27 = search needs in
-    let h = c .loop-test .left in
-    sym (spans-all (S .args .t1) (S .args .t2) (L .loop .j) (omega arith) (omega arith) (L .loop .inv .1))
+returns-3 c = let L = c .before in sym (spans-all _ _ (L .loop .j) (search needs) (search needs) (L .loop .inv .1))
 
 pub same-spans-spec : {M : Type 1} → statement M
 same-spans-spec =

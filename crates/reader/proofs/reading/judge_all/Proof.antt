@@ -8,9 +8,9 @@ use lib.ListN.{length, take, drop, getD}
 use borrow.Author.Needs.{needs}
 use Rattle.paper.specs.Reading.{judgeAll}
 use Rattle.paper.specs.Calls.{pagesAt}
-use Rattle.paper.proofs.CallLaws.{Inside}
+use Rattle.paper.proofs.CallLaws.{Inside, inside-true, pages-count}
 use Rattle.reader.specs.Promise.{judgedAs}
-use Rattle.reader.proofs.CallFacts.{inside-true, pages-count, pages-from}
+use Rattle.reader.proofs.CallFacts.{pages-from}
 use Rattle.reader.proofs.ReadingLaws.{stops, goes-on, none-refused}
 use Rattle.reader.proofs.reading.judge_all.Statement.{statement}
 use Rattle.reader.proofs.reading.judge_all.Tie as tie

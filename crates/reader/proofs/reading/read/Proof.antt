@@ -11,12 +11,12 @@ use denote.Ref.{now}
 use borrow.Author.Needs.{needs}
 use borrow.Author.Tests.{not-true, not-false}
 use Rattle.paper.specs.Judging.{Sheet}
-use Rattle.paper.specs.Reading.{again, lowest, joined}
+use Rattle.paper.specs.Reading.{numbers, again, lowest, joined}
 use Rattle.paper.specs.Reading as Paper
 use Rattle.paper.specs.Calls.{inside, pagesAt, roomy}
 use Rattle.plan.specs.Records.{emptyPlan}
-use Rattle.reader.specs.Answers.{numbersOf, numbers}
-use Rattle.reader.specs.Lent.{rowsLent}
+use Rattle.reader.specs.Answers.{numbersOf}
+use Rattle.plan.specs.Numbers.{rowsLent}
 use Rattle.reader.specs.Joining.{sheetsOf, firstOther, countSaid, planIn, noPlan}
 use Rattle.reader.specs.Promise.{Promised, answered}
 use Rattle.reader.specs.declared.reading.Reading.{Reading}

@@ -66,14 +66,10 @@ enum-known-mark : tie.Need-enum-known-mark Inv-loop μ-loop
 enum-known-mark c = search needs
 
 add-at : tie.Need-add-at Inv-loop μ-loop
-add-at c =
-    let M = c .before in
-    let E = ended M in omega arith
+add-at c = let E = ended (c .before) in omega arith
 
 loop-less : tie.Need-loop-less Inv-loop μ-loop
-loop-less c =
-    let M = c .before in
-    let E = ended M in omega arith
+loop-less c = let E = ended (c .before) in omega arith
 
 loop-again : tie.Need-loop-again Inv-loop μ-loop
 loop-again c =
@@ -87,14 +83,10 @@ enum-known-mark-2 : tie.Need-enum-known-mark-2 Inv-loop μ-loop
 enum-known-mark-2 c = search needs
 
 add-kind-named : tie.Need-add-kind-named Inv-loop μ-loop
-add-kind-named c =
-    let M = c .before in
-    let E = started M in omega arith
+add-kind-named c = let E = started (c .before) in omega arith
 
 kind-named-requires : tie.Need-kind-named-requires Inv-loop μ-loop
-kind-named-requires c κs =
-    let M = c .before in
-    let E = started M in (omega arith, omega arith)
+kind-named-requires c κs = let E = started (c .before) in (omega arith, omega arith)
 
 tag-gives-row-requires : tie.Need-tag-gives-row-requires Inv-loop μ-loop
 tag-gives-row-requires c κs =
@@ -120,14 +112,10 @@ add-count c =
     let E = started M in omega (arith, L .loop .inv .low, S .pre .0)
 
 add-at-2 : tie.Need-add-at-2 Inv-loop μ-loop
-add-at-2 c =
-    let M = c .before .before .before .before .before .before .before .before in
-    let E = started M in omega arith
+add-at-2 c = let E = started (c .before .before .before .before .before .before .before .before) in omega arith
 
 loop-less-2 : tie.Need-loop-less-2 Inv-loop μ-loop
-loop-less-2 c =
-    let M = c .before .before .before .before .before .before .before .before in
-    let E = started M in omega arith
+loop-less-2 c = let E = started (c .before .before .before .before .before .before .before .before) in omega arith
 
 loop-again-2 : tie.Need-loop-again-2 Inv-loop μ-loop
 loop-again-2 c =
@@ -141,14 +129,10 @@ loop-again-2 c =
     record { inner = omega arith; low = omega (arith, i .low); lent = G .tag-gives-row .kept .1 .1 .1 .1 .0 ∙ i .lent; fit = fit-start E (i .fit) .fit; right = omega (arith, i .right, e) }
 
 add-at-3 : tie.Need-add-at-3 Inv-loop μ-loop
-add-at-3 c =
-    let M = c .before .before .before .before .before .before .before .before in
-    let E = started M in omega arith
+add-at-3 c = let E = started (c .before .before .before .before .before .before .before .before) in omega arith
 
 loop-less-3 : tie.Need-loop-less-3 Inv-loop μ-loop
-loop-less-3 c =
-    let M = c .before .before .before .before .before .before .before .before in
-    let E = started M in omega arith
+loop-less-3 c = let E = started (c .before .before .before .before .before .before .before .before) in omega arith
 
 loop-again-3 : tie.Need-loop-again-3 Inv-loop μ-loop
 loop-again-3 c =

@@ -1,6 +1,6 @@
 -- `sheet::content::fill_rows` meets its contract: the rows that are to be laid are those laid and those of the tags that are left.
 -- Assumes nothing.
-use mathlib.Core.Path.{_≡_, refl, sym, ap, _∙_, subst}
+use mathlib.Core.Path.{_≡_, refl, sym, ap, _∙_}
 use mathlib.Core.List.{List, [], _∷_}
 use Prim.Native.Nat.{ℕ, _+_, _-_, _*_, _≤_}
 use native.Mathlib.Omega.{arith}
@@ -10,7 +10,8 @@ use Rattle.paper.specs.Plan.{Row}
 use Rattle.markup.specs.Walk.{tagsAt}
 use Rattle.fields.specs.Places.{kindAt}
 use Rattle.sheet.specs.Content.{wsFrom, rowsFrom}
-use Rattle.sheet.specs.Laying.{Fit, told, rowFrom}
+use Rattle.sheet.specs.Found.{told}
+use Rattle.sheet.specs.Laying.{Fit, rowFrom}
 use Rattle.sheet.proofs.ContentLaws.{Ends, Starts, ends, starts, nothing, fit-end, rows-none, rows-end}
 use Rattle.sheet.proofs.RowLaws.{TagTold, not-strange, tag-told, row-here, no-row-here, plain-ws, medication-here, medication-sound, Filling, begin-rows, refill, row-room, row-space, row-turn, finish-rows}
 use borrow.Author.Needs.{needs}
@@ -30,41 +31,57 @@ Inv-loop page scratch₀ rows₀ text₀ n i keys m₀ k₀ at₀ scratch rows t
 abbrev μ-loop : tie.MeasureT-loop
 μ-loop page scratch₀ rows₀ text₀ n i keys m₀ k₀ at₀ scratch rows text m k at = length page - at
 
-ended : (c : tie.After-mark Inv-loop μ-loop) → Ends (c .before .before .before .before .before .before .before .before .before .args .page .now) (c .before .before .before .loop .at) (c .mark .given .0 .0)
+-- where the call began
+abbrev entry : tie.At-loop Inv-loop μ-loop → tie.Start Inv-loop μ-loop
+entry c = c .before .before .before .before .before .before
+
+ended : (c : tie.After-mark Inv-loop μ-loop) → let L = c .before .before .before in Ends (entry L .args .page .now) (L .loop .at) (c .mark .given .0 .0)
 ended c = ends (c .mark .given .1) (c .before .before .next-tag .ensures)
 
-started : (c : tie.After-mark2 Inv-loop μ-loop) → Starts (c .before .before .before .before .before .before .before .before .before .args .page .now) (c .before .before .before .loop .at) (c .mark2 .given .0 .0) (c .mark2 .given .0 .1 .0)
+started : (c : tie.After-mark2 Inv-loop μ-loop) → let L = c .before .before .before in Starts (entry L .args .page .now) (L .loop .at) (c .mark2 .given .0 .0) (c .mark2 .given .0 .1 .0)
 started c = starts (c .mark2 .given .1) (c .before .before .next-tag .ensures)
 
-tag : (c : tie.After-find Inv-loop μ-loop) → TagTold (c .before .before .before .before .before .before .before .before .before .before .before .before .before .args .page .now) (c .before .before .before .before .mark2 .given .0 .0) (c .before .before .before .before .mark2 .given .0 .1 .0) (c .before .before .kind-named .result) (c .find .result .raws)
+tag : (c : tie.After-find Inv-loop μ-loop) → let B = c .before .before .before .before in
+    TagTold (entry (B .before .before .before) .args .page .now) (B .mark2 .given .0 .0) (B .mark2 .given .0 .1 .0) (c .before .before .kind-named .result) (c .find .result .raws)
 tag c =
     let K = c .before .before in
-    let B = started (c .before .before .before .before) in
-    let f = c .before .before .before .before .before .before .before .loop .inv .fit in
-    tag-told B f (K .kind-named .result) (K .kind-named .ensures .0) (c .find .ensures .1 (c .find .ensures .0 ∙ not-strange B f (K .kind-named .result) (K .kind-named .ensures .0)) .1)
+    let B = K .before .before in
+    let f = B .before .before .before .loop .inv .fit in
+    let k = K .kind-named .result in
+    let h = K .kind-named .ensures .0 in
+    tag-told (started B) f k h (c .find .ensures .1 (c .find .ensures .0 ∙ not-strange (started B) f k h) .1)
+
+-- the rows that are laid, where those are left
+abbrev Left : tie.At-loop Inv-loop μ-loop → List Row → Type 0
+Left c rest =
+    let a = entry c .args in
+    let l = c .loop in
+    Filling (rowsFrom (tagsAt (a .page .now) 0)) rest (a .text .now) (l .text) (a .n) (l .m) (a .rows .now) (l .rows) (a .i) (l .k)
 
 -- a medication stands next
-medication : (c : tie.Then1 Inv-loop μ-loop) → TagTold (c .before .before .before .before .before .before .before .before .before .before .before .before .before .before .before .args .page .now) (c .before .before .before .before .before .before .mark2 .given .0 .0) (c .before .before .before .before .before .before .mark2 .given .0 .1 .0) 6 (c .before .before .find .result .raws)
-medication c = subst (λ (k : ℕ). TagTold (c .before .before .before .before .before .before .before .before .before .before .before .before .before .before .before .args .page .now) (c .before .before .before .before .before .before .mark2 .given .0 .0) (c .before .before .before .before .before .before .mark2 .given .0 .1 .0) k (c .before .before .find .result .raws)) (c .if1 .taken) (tag (c .before .before))
+medication : (c : tie.Then1 Inv-loop μ-loop) → let F = c .before .before in let B = F .before .before .before .before in
+    TagTold (entry (B .before .before .before) .args .page .now) (B .mark2 .given .0 .0) (B .mark2 .given .0 .1 .0) 6 (F .find .result .raws)
+medication c = rw (c .if1 .taken) at (tag (c .before .before))
 
-first-filling : (c : tie.Then1 Inv-loop μ-loop) → Filling (rowsFrom (tagsAt (c .before .before .before .before .before .before .before .before .before .before .before .before .before .before .before .args .page .now) 0))
-    (rowFrom M (told (c .before .before .before .before .before .before .before .before .before .before .before .before .before .before .before .args .page .now) M (c .before .before .find .result .raws)) (wsFrom (tagsAt (c .before .before .before .before .before .before .before .before .before .before .before .before .before .before .before .args .page .now) (c .before .before .before .before .before .before .mark2 .given .0 .0 + 1))) ∷ rowsFrom (tagsAt (c .before .before .before .before .before .before .before .before .before .before .before .before .before .before .before .args .page .now) (c .before .before .before .before .before .before .mark2 .given .0 .0 + 1)))
-    (c .before .before .before .before .before .before .before .before .before .before .before .before .before .before .before .args .text .now) (c .before .before .before .before .before .before .before .before .before .loop .text) (c .before .before .before .before .before .before .before .before .before .before .before .before .before .before .before .args .n) (c .before .before .before .before .before .before .before .before .before .loop .m) (c .before .before .before .before .before .before .before .before .before .before .before .before .before .before .before .args .rows .now) (c .before .before .before .before .before .before .before .before .before .loop .rows) (c .before .before .before .before .before .before .before .before .before .before .before .before .before .before .before .args .i) (c .before .before .before .before .before .before .before .before .before .loop .k)
-first-filling c = refill (medication-here (started (c .before .before .before .before .before .before)) (medication c)) (c .before .before .before .before .before .before .before .before .before .loop .inv .filling)
+first-filling : (c : tie.Then1 Inv-loop μ-loop) → let F = c .before .before in let B = F .before .before .before .before in let L = B .before .before .before in
+    let w = entry L .args .page .now in let ts = tagsAt w (B .mark2 .given .0 .0 + 1) in Left L (rowFrom M (told w M (F .find .result .raws)) (wsFrom ts) ∷ rowsFrom ts)
+first-filling c =
+    let B = c .before .before .before .before .before .before in
+    refill (medication-here (started B) (medication c)) (B .before .before .before .loop .inv .filling)
 
 -- another row stands next
-other-filling : (c : tie.Then2 Inv-loop μ-loop) → Filling (rowsFrom (tagsAt (c .before .before .before .before .before .before .before .before .before .before .before .before .before .before .before .before .before .before .before .before .args .page .now) 0))
-    (rowFrom (kindAt (c .before .before .before .before .before .before .before .before .before .kind-named .result)) (told (c .before .before .before .before .before .before .before .before .before .before .before .before .before .before .before .before .before .before .before .before .args .page .now) (kindAt (c .before .before .before .before .before .before .before .before .before .kind-named .result)) (c .before .before .before .before .before .before .before .find .result .raws)) [] ∷ rowsFrom (tagsAt (c .before .before .before .before .before .before .before .before .before .before .before .before .before .before .before .before .before .before .before .before .args .page .now) (c .before .before .before .before .before .before .before .before .before .before .before .mark2 .given .0 .0 + 1)))
-    (c .before .before .before .before .before .before .before .before .before .before .before .before .before .before .before .before .before .before .before .before .args .text .now) (c .before .before .before .before .before .before .before .before .before .before .before .before .before .before .loop .text) (c .before .before .before .before .before .before .before .before .before .before .before .before .before .before .before .before .before .before .before .before .args .n) (c .before .before .before .before .before .before .before .before .before .before .before .before .before .before .loop .m) (c .before .before .before .before .before .before .before .before .before .before .before .before .before .before .before .before .before .before .before .before .args .rows .now) (c .before .before .before .before .before .before .before .before .before .before .before .before .before .before .loop .rows) (c .before .before .before .before .before .before .before .before .before .before .before .before .before .before .before .before .before .before .before .before .args .i) (c .before .before .before .before .before .before .before .before .before .before .before .before .before .before .loop .k)
+other-filling : (c : tie.Then2 Inv-loop μ-loop) → let F = c .before .before .before .before .before .before .before in let B = F .before .before .before .before in let L = B .before .before .before in
+    let w = entry L .args .page .now in let k = kindAt (F .before .before .kind-named .result) in let ts = tagsAt w (B .mark2 .given .0 .0 + 1) in
+    Left L (rowFrom k (told w k (F .find .result .raws)) [] ∷ rowsFrom ts)
 other-filling c =
-    let w = c .before .before .before .before .before .before .before .before .before .before .before .before .before .before .before .before .before .before .before .before .args .page .now in
-    let K = c .before .before .before .before .before .before .before .before .before in
-    let G = c .before .before .before in
-    let ts = tagsAt w (c .before .before .before .before .before .before .before .before .before .before .before .mark2 .given .0 .0 + 1) in
-    let vs = told w (kindAt (K .kind-named .result)) (c .before .before .before .before .before .before .before .find .result .raws) in
-    refill (row-here (started (c .before .before .before .before .before .before .before .before .before .before .before)) (tag (c .before .before .before .before .before .before .before)) (sym (G .gives-row .ensures) ∙ c .if2 .taken)
-    ∙ ap (λ (r : Row). r ∷ rowsFrom ts) (plain-ws (K .kind-named .result) (K .kind-named .ensures .1) (c .before .before .before .before .before .if1 .left) vs (wsFrom ts)))
-    (c .before .before .before .before .before .before .before .before .before .before .before .before .before .before .loop .inv .filling)
+    let E = c .before .before .before .before .before in
+    let F = E .before .before in
+    let K = F .before .before in
+    let B = K .before .before in
+    let L = B .before .before .before in
+    let ts = tagsAt (entry L .args .page .now) (B .mark2 .given .0 .0 + 1) in
+    refill (row-here (started B) (tag F) (sym (c .before .before .before .gives-row .ensures) ∙ c .if2 .taken)
+    ∙ ap (λ (r : Row). r ∷ rowsFrom ts) (plain-ws (K .kind-named .result) (K .kind-named .ensures .1) (E .if1 .left) _ (wsFrom ts))) (L .loop .inv .filling)
 
 keys-requires : tie.Need-keys-requires Inv-loop μ-loop
 keys-requires c κs = search needs
@@ -99,7 +116,7 @@ returns : tie.Need-returns Inv-loop μ-loop
 returns c =
     let N = c .before .before in
     let L = N .before in
-    let S = L .before .before .before .before .before .before in
+    let S = entry L in
     let w = S .args .page .now in
     let f = S .pre .3 .fits in
     finish-rows (refill (rows-none w (L .loop .at) (nothing w (L .loop .at) (c .enum-told .given .1) (N .next-tag .ensures .0))) (L .loop .inv .filling)) (omega arith) (omega (arith, S .pre .4))
@@ -108,14 +125,10 @@ enum-known-mark : tie.Need-enum-known-mark Inv-loop μ-loop
 enum-known-mark c = search needs
 
 add-at : tie.Need-add-at Inv-loop μ-loop
-add-at c =
-    let M = c .before in
-    let E = ended M in omega arith
+add-at c = let E = ended (c .before) in omega arith
 
 loop-less : tie.Need-loop-less Inv-loop μ-loop
-loop-less c =
-    let M = c .before in
-    let E = ended M in omega arith
+loop-less c = let E = ended (c .before) in omega arith
 
 loop-again : tie.Need-loop-again Inv-loop μ-loop
 loop-again c =
@@ -129,14 +142,10 @@ enum-known-mark-2 : tie.Need-enum-known-mark-2 Inv-loop μ-loop
 enum-known-mark-2 c = search needs
 
 add-kind-named : tie.Need-add-kind-named Inv-loop μ-loop
-add-kind-named c =
-    let M = c .before in
-    let E = started M in omega arith
+add-kind-named c = let E = started (c .before) in omega arith
 
 kind-named-requires : tie.Need-kind-named-requires Inv-loop μ-loop
-kind-named-requires c κs =
-    let M = c .before in
-    let E = started M in (omega arith, omega arith)
+kind-named-requires c κs = let E = started (c .before) in (omega arith, omega arith)
 
 find-requires : tie.Need-find-requires Inv-loop μ-loop
 find-requires c κs =
@@ -147,9 +156,7 @@ find-requires c κs =
     let E = started M in (E .inner, S .pre .0, K .kind-named .ensures .1, Y .keys .ensures)
 
 add-j : tie.Need-add-j Inv-loop μ-loop
-add-j c =
-    let M = c .before .before .before .before .before in
-    let E = started M in omega arith
+add-j c = let E = started (c .before .before .before .before .before) in omega arith
 
 lay-medication-requires : tie.Need-lay-medication-requires Inv-loop μ-loop
 lay-medication-requires c κs =
@@ -178,13 +185,11 @@ add-k : tie.Need-add-k Inv-loop μ-loop
 add-k c =
     let I = c .before .before .before .before .before .before .before .before .before .before .before in
     let L = I .before .before .before .before .before .before .before .before .before in
-    let S = L .before .before .before .before .before .before in
+    let S = entry L in
     let s = row-space (first-filling I) (S .pre .3) (S .pre .4) in omega (arith, s, L .loop .inv .filling .rows-so .long, S .good)
 
 loop-less-2 : tie.Need-loop-less-2 Inv-loop μ-loop
-loop-less-2 c =
-    let M = c .before .before .before .before .before .before .before .before .before .before .before .before .before .before .before .before .before in
-    let E = started M in omega arith
+loop-less-2 c = let E = started (c .before .before .before .before .before .before .before .before .before .before .before .before .before .before .before .before .before) in omega arith
 
 loop-again-2 : tie.Need-loop-again-2 Inv-loop μ-loop
 loop-again-2 c =
@@ -192,7 +197,7 @@ loop-again-2 c =
     let I = X .before .before .before .before .before in
     let M = I .before .before .before .before .before .before in
     let L = M .before .before .before in
-    let S = L .before .before .before .before .before .before in
+    let S = entry L in
     let E = started M in
     record {
       inner = omega (arith, E .high, E .inner);
@@ -206,7 +211,7 @@ gives-row-requires c κs =
     let F = c .before .before .before in
     let K = F .before .before in
     let L = K .before .before .before .before .before in
-    let S = L .before .before .before .before .before .before in
+    let S = entry L in
     (omega (arith, S .pre .1, L .loop .inv .lent), K .kind-named .ensures .1, tag F .lie)
 
 lay-plain-requires : tie.Need-lay-plain-requires Inv-loop μ-loop
@@ -217,7 +222,7 @@ lay-plain-requires c κs =
     let F = E .before .before in
     let K = F .before .before in
     let L = K .before .before .before .before .before in
-    let S = L .before .before .before .before .before .before in
+    let S = entry L in
     let Q = other-filling I in (
       omega (arith, S .pre .1, L .loop .inv .lent, G .gives-row .kept .1 .1 .1 .0),
       K .kind-named .ensures .1,
@@ -231,13 +236,11 @@ add-k-2 : tie.Need-add-k-2 Inv-loop μ-loop
 add-k-2 c =
     let I = c .before .before .before .before .before .before .before .before .before .before in
     let L = I .before .before .before .before .before .before .before .before .before .before .before .before .before .before in
-    let S = L .before .before .before .before .before .before in
+    let S = entry L in
     let s = row-space (other-filling I) (S .pre .3) (S .pre .4) in omega (arith, s, L .loop .inv .filling .rows-so .long, S .good)
 
 loop-less-3 : tie.Need-loop-less-3 Inv-loop μ-loop
-loop-less-3 c =
-    let M = c .before .before .before .before .before .before .before .before .before .before .before .before .before .before .before .before .before .before .before .before .before in
-    let E = started M in omega arith
+loop-less-3 c = let E = started (c .before .before .before .before .before .before .before .before .before .before .before .before .before .before .before .before .before .before .before .before .before) in omega arith
 
 loop-again-3 : tie.Need-loop-again-3 Inv-loop μ-loop
 loop-again-3 c =
@@ -247,7 +250,7 @@ loop-again-3 c =
     let F = G .before .before .before .before in
     let M = F .before .before .before .before in
     let L = M .before .before .before in
-    let S = L .before .before .before .before .before .before in
+    let S = entry L in
     let E = started M in
     record {
       inner = omega (arith, E .high, E .inner);
@@ -257,9 +260,7 @@ loop-again-3 c =
     }
 
 loop-less-4 : tie.Need-loop-less-4 Inv-loop μ-loop
-loop-less-4 c =
-    let M = c .before .before .before .before .before .before .before .before .before .before .before in
-    let E = started M in omega arith
+loop-less-4 c = let E = started (c .before .before .before .before .before .before .before .before .before .before .before) in omega arith
 
 loop-again-4 : tie.Need-loop-again-4 Inv-loop μ-loop
 loop-again-4 c =

@@ -51,9 +51,7 @@ add-at : tie.Need-add-at Inv-loop μ-loop
 add-at c = let E = ended (c .before) in omega arith
 
 loop-less : tie.Need-loop-less Inv-loop μ-loop
-loop-less c =
-    let M = c .before in
-    let E = ended M in omega arith
+loop-less c = let E = ended (c .before) in omega arith
 
 loop-again : tie.Need-loop-again Inv-loop μ-loop
 loop-again c =
@@ -67,14 +65,10 @@ enum-known-mark-2 : tie.Need-enum-known-mark-2 Inv-loop μ-loop
 enum-known-mark-2 c = search needs
 
 add-kind-named : tie.Need-add-kind-named Inv-loop μ-loop
-add-kind-named c =
-    let M = c .before in
-    let E = started M in omega arith
+add-kind-named c = let E = started (c .before) in omega arith
 
 kind-named-requires : tie.Need-kind-named-requires Inv-loop μ-loop
-kind-named-requires c κs =
-    let M = c .before in
-    let E = started M in (omega arith, omega arith)
+kind-named-requires c κs = let E = started (c .before) in (omega arith, omega arith)
 
 returns-2 : tie.Need-returns-2 Inv-loop μ-loop
 returns-2 c =
@@ -89,9 +83,7 @@ add-at-2 : tie.Need-add-at-2 Inv-loop μ-loop
 add-at-2 c = let E = started (c .before .before .before) in omega arith
 
 loop-less-2 : tie.Need-loop-less-2 Inv-loop μ-loop
-loop-less-2 c =
-    let M = c .before .before .before in
-    let E = started M in omega arith
+loop-less-2 c = let E = started (c .before .before .before) in omega arith
 
 loop-again-2 : tie.Need-loop-again-2 Inv-loop μ-loop
 loop-again-2 c =

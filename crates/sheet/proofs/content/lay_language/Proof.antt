@@ -8,7 +8,7 @@ use lib.Seq.{slice}
 use Rattle.paper.specs.Lists.{bytes}
 use Rattle.paper.specs.Fields.{MP}
 use Rattle.fields.specs.Places.{kindAt}
-use Rattle.sheet.specs.Laying.{told}
+use Rattle.sheet.specs.Found.{told}
 use Rattle.sheet.proofs.ContentLaws.{relay, reroom, numbers-kept, room-one}
 use Rattle.sheet.proofs.HeadLaws.{mp-slice, mp-four, language-room, language-there, language-laid, language-fits}
 use borrow.Author.Needs.{needs}

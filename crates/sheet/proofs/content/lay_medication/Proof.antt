@@ -8,7 +8,7 @@ use Rattle.paper.specs.Fields.{M}
 use Rattle.paper.specs.Judging.{tail}
 use Rattle.markup.specs.Walk.{tagsAt}
 use Rattle.sheet.specs.Content.{wsFrom}
-use Rattle.sheet.specs.Laying.{told}
+use Rattle.sheet.specs.Found.{told}
 use Rattle.sheet.proofs.ContentLaws.{lie-at, relay, reroom, room-first, room-behind}
 use Rattle.sheet.proofs.RowLaws.{m-fields, package-value, tail-slice, tail-long, medication-values, medication-laid}
 use borrow.Author.Needs.{needs}

@@ -12,7 +12,7 @@ use Rattle.paper.specs.Plan.{Slots}
 use Rattle.markup.specs.Walk.{tagsAt}
 use Rattle.fields.specs.Places.{kindAt}
 use Rattle.sheet.specs.Content.{partFrom, headFrom}
-use Rattle.sheet.specs.Laying.{told}
+use Rattle.sheet.specs.Found.{told}
 use Rattle.sheet.proofs.ContentLaws.{relay, reroom, behind, room-first, room-behind}
 use Rattle.sheet.proofs.HeadLaws.{mp-slice, mp-three, mp-told, ident-is, lang-is}
 use borrow.Author.Needs.{needs}

@@ -6,7 +6,7 @@ use lib.Seq.{slice}
 use Rattle.markup.specs.Walk.{tagsAt}
 use Rattle.fields.specs.Places.{kindAt}
 use Rattle.sheet.specs.Content.{partFrom}
-use Rattle.sheet.specs.Laying.{told}
+use Rattle.sheet.specs.Found.{told}
 use Rattle.sheet.proofs.ContentLaws.{told-long, relay, reroom}
 use Rattle.sheet.proofs.HeadLaws.{whole-slice}
 use borrow.Author.Needs.{needs}

@@ -5,7 +5,7 @@ use native.Mathlib.Omega.{arith}
 use lib.ListN.{length}
 use lib.Seq.{slice}
 use Rattle.fields.specs.Places.{kindAt}
-use Rattle.sheet.specs.Laying.{told}
+use Rattle.sheet.specs.Found.{told}
 use Rattle.sheet.proofs.ContentLaws.{told-long, count-small, relay, reroom}
 use Rattle.sheet.proofs.HeadLaws.{whole-slice}
 use Rattle.sheet.proofs.RowLaws.{plain-values, plain-laid}

@@ -10,8 +10,8 @@ use Rattle.paper.specs.Plan.{Slots}
 use Rattle.markup.specs.Laid.{laid}
 use Rattle.fields.specs.Places.{kindAt}
 use Rattle.fields.proofs.ColumnLaws.{part-within}
-use Rattle.sheet.specs.Laying.{told, Room, settled}
-use Rattle.sheet.specs.Found.{noRaw}
+use Rattle.sheet.specs.Laying.{Room, settled}
+use Rattle.sheet.specs.Found.{noRaw, told}
 use Rattle.sheet.proofs.ContentLaws.{Going, begin, finish, one-laid, told-here, told-long, lie-at, count-small, value-room, value-turn, none-left}
 use borrow.Author.Needs.{needs}
 use Rattle.sheet.proofs.content.lay_values.Statement.{statement}

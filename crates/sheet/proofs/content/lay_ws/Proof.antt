@@ -11,7 +11,8 @@ use Rattle.paper.specs.Plan.{Slots}
 use Rattle.markup.specs.Walk.{tagsAt}
 use Rattle.fields.specs.Places.{kindAt}
 use Rattle.sheet.specs.Content.{wsFrom}
-use Rattle.sheet.specs.Laying.{Fit, told}
+use Rattle.sheet.specs.Found.{told}
+use Rattle.sheet.specs.Laying.{Fit}
 use Rattle.sheet.proofs.ContentLaws.{Ends, Starts, ends, starts, nothing, fit-end, ws-none, ws-end, ws-stop, Going, begin, turn, finish, room-left, room-first, reroom, regoing, replaced, going-room}
 use Rattle.sheet.proofs.RowLaws.{TagTold, not-strange, tag-told, w-fields, w-here, w-long}
 use borrow.Author.Needs.{needs}
@@ -32,23 +33,28 @@ Inv-loop page from keys scratch₀ text₀ n numbers₀ at i₀ m₀ b₀ scratc
 abbrev μ-loop : tie.MeasureT-loop
 μ-loop page from keys scratch₀ text₀ n numbers₀ at i₀ m₀ b₀ scratch text numbers i m b = length page - i
 
-ended : (c : tie.After-mark Inv-loop μ-loop) → Ends (c .before .before .before .before .before .before .before .before .args .page .now) (c .before .before .before .loop .i) (c .mark .given .0 .0)
+-- where the call began
+abbrev entry : tie.At-loop Inv-loop μ-loop → tie.Start Inv-loop μ-loop
+entry c = c .before .before .before .before .before
+
+ended : (c : tie.After-mark Inv-loop μ-loop) → let L = c .before .before .before in Ends (entry L .args .page .now) (L .loop .i) (c .mark .given .0 .0)
 ended c = ends (c .mark .given .1) (c .before .before .next-tag .ensures)
 
-started : (c : tie.After-mark2 Inv-loop μ-loop) → Starts (c .before .before .before .before .before .before .before .before .args .page .now) (c .before .before .before .loop .i) (c .mark2 .given .0 .0) (c .mark2 .given .0 .1 .0)
+started : (c : tie.After-mark2 Inv-loop μ-loop) → let L = c .before .before .before in Starts (entry L .args .page .now) (L .loop .i) (c .mark2 .given .0 .0) (c .mark2 .given .0 .1 .0)
 started c = starts (c .mark2 .given .1) (c .before .before .next-tag .ensures)
 
-tag : (c : tie.After-find Inv-loop μ-loop) → TagTold (c .before .before .before .before .before .before .before .before .before .before .before .before .args .page .now) (c .before .before .before .before .mark2 .given .0 .0) (c .before .before .before .before .mark2 .given .0 .1 .0) 7 (c .find .result .raws)
+tag : (c : tie.After-find Inv-loop μ-loop) → let B = c .before .before .before .before in
+    TagTold (entry (B .before .before .before) .args .page .now) (B .mark2 .given .0 .0) (B .mark2 .given .0 .1 .0) 7 (c .find .result .raws)
 tag c =
     let K = c .before .before in
+    let B = K .before .before in
+    let f = B .before .before .before .loop .inv .fit in
     let h = sym (c .before .if1 .left) ∙ K .kind-named .ensures .0 in
-    let B = started (c .before .before .before .before) in
-    let f = c .before .before .before .before .before .before .before .loop .inv .fit in
-    tag-told B f 7 h (c .find .ensures .1 (c .find .ensures .0 ∙ not-strange B f 7 h) .1)
+    tag-told (started B) f 7 h (c .find .ensures .1 (c .find .ensures .0 ∙ not-strange (started B) f 7 h) .1)
 
 -- the W that is laid next
-left : (c : tie.After-find Inv-loop μ-loop) → wsFrom (tagsAt (c .before .before .before .before .before .before .before .before .before .before .before .before .args .page .now) (c .before .before .before .before .before .before .before .loop .i))
-    ≡ slice 0 2 (told (c .before .before .before .before .before .before .before .before .before .before .before .before .args .page .now) (kindAt 7) (c .find .result .raws)) ∷ wsFrom (tagsAt (c .before .before .before .before .before .before .before .before .before .before .before .before .args .page .now) (c .before .before .before .before .mark2 .given .0 .0 + 1))
+left : (c : tie.After-find Inv-loop μ-loop) → let B = c .before .before .before .before in let L = B .before .before .before in let w = entry L .args .page .now in
+    wsFrom (tagsAt w (L .loop .i)) ≡ slice 0 2 (told w (kindAt 7) (c .find .result .raws)) ∷ wsFrom (tagsAt w (B .mark2 .given .0 .0 + 1))
 left c = w-here (started (c .before .before .before .before)) (tag c) (sym (c .before .before .kind-named .ensures .0) ∙ c .before .if1 .left)
 
 loop-holds : tie.Need-loop-holds Inv-loop μ-loop
@@ -82,7 +88,7 @@ returns : tie.Need-returns Inv-loop μ-loop
 returns c =
     let N = c .before .before in
     let L = N .before in
-    let S = L .before .before .before .before .before in
+    let S = entry L in
     let w = S .args .page .now in
     let f = S .pre .5 .fits in
     finish (regoing (ap concat (ws-none w (L .loop .i) (nothing w (L .loop .i) (c .enum-told .given .1) (N .next-tag .ensures .0)))) (L .loop .inv .going)) (omega arith) (omega (arith, S .pre .6))
@@ -91,14 +97,10 @@ enum-known-mark : tie.Need-enum-known-mark Inv-loop μ-loop
 enum-known-mark c = search needs
 
 add-i : tie.Need-add-i Inv-loop μ-loop
-add-i c =
-    let M = c .before in
-    let E = ended M in omega arith
+add-i c = let E = ended (c .before) in omega arith
 
 loop-less : tie.Need-loop-less Inv-loop μ-loop
-loop-less c =
-    let M = c .before in
-    let E = ended M in omega arith
+loop-less c = let E = ended (c .before) in omega arith
 
 loop-again : tie.Need-loop-again Inv-loop μ-loop
 loop-again c =
@@ -112,14 +114,10 @@ enum-known-mark-2 : tie.Need-enum-known-mark-2 Inv-loop μ-loop
 enum-known-mark-2 c = search needs
 
 add-kind-named : tie.Need-add-kind-named Inv-loop μ-loop
-add-kind-named c =
-    let M = c .before in
-    let E = started M in omega arith
+add-kind-named c = let E = started (c .before) in omega arith
 
 kind-named-requires : tie.Need-kind-named-requires Inv-loop μ-loop
-kind-named-requires c κs =
-    let M = c .before in
-    let E = started M in (omega arith, omega arith)
+kind-named-requires c κs = let E = started (c .before) in (omega arith, omega arith)
 
 same-length-4 : tie.Need-same-length-4 Inv-loop μ-loop
 same-length-4 c = search needs
@@ -135,7 +133,7 @@ returns-2 c =
     let K = c .before in
     let M = K .before .before in
     let L = M .before .before .before in
-    let S = L .before .before .before .before .before in
+    let S = entry L in
     let f = S .pre .5 .fits in
     finish (regoing (ap concat (ws-stop (started M) (λ z. c .if1 .taken (K .kind-named .ensures .0 ∙ z)))) (L .loop .inv .going)) (omega arith) (omega (arith, S .pre .6))
 
@@ -149,7 +147,7 @@ lay-values-requires : tie.Need-lay-values-requires Inv-loop μ-loop
 lay-values-requires c κs =
     let F = c .before .before .before .before in
     let L = F .before .before .before .before .before .before .before in
-    let S = L .before .before .before .before .before in
+    let S = entry L in
     let v = L .loop .inv in (
       omega (arith, S .pre .2, v .lent),
       omega arith,
@@ -164,18 +162,14 @@ add-b : tie.Need-add-b Inv-loop μ-loop
 add-b c =
     let F = c .before .before .before .before .before .before .before .before .before .before .before in
     let L = F .before .before .before .before .before .before .before in
-    let S = L .before .before .before .before .before in
+    let S = entry L in
     omega (arith, L .loop .inv .space, ap length (left F), S .good)
 
 add-i-2 : tie.Need-add-i-2 Inv-loop μ-loop
-add-i-2 c =
-    let M = c .before .before .before .before .before .before .before .before .before .before .before .before .before .before .before in
-    let E = started M in omega arith
+add-i-2 c = let E = started (c .before .before .before .before .before .before .before .before .before .before .before .before .before .before .before) in omega arith
 
 loop-less-2 : tie.Need-loop-less-2 Inv-loop μ-loop
-loop-less-2 c =
-    let M = c .before .before .before .before .before .before .before .before .before .before .before .before .before .before .before in
-    let E = started M in omega arith
+loop-less-2 c = let E = started (c .before .before .before .before .before .before .before .before .before .before .before .before .before .before .before) in omega arith
 
 loop-again-2 : tie.Need-loop-again-2 Inv-loop μ-loop
 loop-again-2 c =
@@ -183,7 +177,7 @@ loop-again-2 c =
     let F = X .before .before .before .before .before in
     let M = F .before .before .before .before in
     let L = M .before .before .before in
-    let S = L .before .before .before .before .before in
+    let S = entry L in
     let E = started M in
     let v = L .loop .inv in
     let us = slice 0 2 (told (S .args .page .now) (kindAt 7) (F .find .result .raws)) in

@@ -6,7 +6,8 @@ use Rattle.markup.specs.Walk.{insideAt}
 use Rattle.fields.specs.Places.{kindAt}
 use Rattle.sheet.specs.Found.{Tells}
 use Rattle.sheet.specs.Laying.{givesRow}
-use Rattle.sheet.proofs.ContentLaws.{told-slots, row-by-kind}
+use Rattle.sheet.proofs.ContentLaws.{row-by-kind}
+use Rattle.sheet.proofs.FlawLaws.{told-slots}
 use borrow.Author.Needs.{needs}
 use Rattle.sheet.proofs.content.tag_gives_row.Statement.{statement}
 use Rattle.sheet.proofs.content.tag_gives_row.Tie as tie
@@ -33,9 +34,7 @@ returns c =
     let G = c .before .before in
     let F = G .before .before .before in
     let S = F .before .before .before .before in
-    let w = S .args .page .now in
-    let k = kindAt (S .args .kind) in
-    G .gives-row .ensures ∙ ap (λ (vs : Slots). givesRow k vs) (told-slots w k (F .find .result .raws) (insideAt w (S .args .at) .attrs) (tells F))
+    G .gives-row .ensures ∙ ap (λ (vs : Slots). givesRow (kindAt (S .args .kind)) vs) (told-slots (tells F))
 
 gives-row-requires-2 : tie.Need-gives-row-requires-2
 gives-row-requires-2 c κs = search needs

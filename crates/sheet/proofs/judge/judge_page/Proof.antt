@@ -3,7 +3,8 @@
 use mathlib.Core.Path.{sym, _∙_}
 use native.Mathlib.Omega.{arith}
 use borrow.Author.Needs.{needs}
-use Rattle.sheet.proofs.JudgeLaws.{page-empty, page-long, page-bytes, page-malformed, page-whole, good-within}
+use Rattle.markup.proofs.ExtentLaws.{good-within}
+use Rattle.sheet.proofs.JudgeLaws.{page-empty, page-long, page-bytes, page-malformed, page-whole}
 use Rattle.sheet.proofs.judge.judge_page.Statement.{statement}
 use Rattle.sheet.proofs.judge.judge_page.Tie as tie
 
@@ -35,7 +36,7 @@ cast-place-2 c =
     let E = c .before in
     let N = E .before .before in
     let F = N .before .before in
-    let g = good-within _ _ (sym (E .extent .given .1) ∙ N .scan .ensures) in
+    let g = good-within _ _ (sym (N .scan .ensures) ∙ E .extent .given .1) in
     omega (arith, g, F .before .if2 .left)
 
 returns-4 : tie.Need-returns-4

@@ -1,50 +1,22 @@
 -- `tollgilt::fresh::fresh_pages` meets its contract: reading answers the call, and where it gives a plan, the numbers that it laid out are written.
 -- Assumes nothing.
-use mathlib.Core.Path.{sym, _∙_, subst}
-use mathlib.Core.List.{List}
-use Prim.Native.Nat.{ℕ, _≤_}
+use mathlib.Core.Path.{sym, _∙_}
+use Prim.Native.Nat.{_≤_}
 use native.Mathlib.Omega.{arith}
-use lib.ListN.{length, replicate}
+use lib.ListN.{length}
 use denote.Ref.{now}
 use borrow.Author.Needs.{needs}
-use Rattle.paper.specs.Reading as Paper
-use Rattle.paper.specs.Calls.{freshCall}
-use Rattle.reader.specs.Promise as Reads
-use Rattle.tollgilt.specs.Fresh.{afresh}
-use Rattle.tollgilt.proofs.FreshWritten.{no-room, same-call, refuses, not-written, plan-laid}
+use Rattle.tollgilt.proofs.FreshWritten.{no-room, refuses, not-written, plan-laid}
 use Rattle.tollgilt.proofs.fresh.fresh_pages.Statement.{statement}
 use Rattle.tollgilt.proofs.fresh.fresh_pages.Tie as tie
-
--- the rows and the text as lent to reading
-abbrev rows₀ : List ℕ
-rows₀ = replicate 12288 0
-
-abbrev text₀ : List ℕ
-text₀ = replicate 12600 0
-
--- what the call reads
-abbrev called : tie.Start → Paper.Answer
-called s = freshCall (length (now (s .args .out))) (now (s .args .buffer)) (now (s .args .starts)) (now (s .args .lens))
 
 -- the room is enough
 roomy : (c : tie.Else1) → 12600 ≤ length (now (c .before .before .before .before .before .args .out))
 roomy c = omega (arith, c .if1 .left)
 
-module _ (c : tie.After-read) where
-  -- where the call began
-  abbrev start : tie.Start
-  start = c .before .before .before .before .before .before .before .before
-
-  -- the rows and the text as reading hands them back
-  abbrev rows : List ℕ
-  rows = c .read .last .1 .1 .1 .0
-
-  abbrev text : List ℕ
-  text = c .read .last .1 .1 .1 .1 .0
-
-  -- reading keeps its promise for that answer
-  read-as : Reads.Promised (called start) rows₀ text₀ (c .read .result) rows text
-  read-as = subst (λ (a : Paper.Answer). Reads.Promised a rows₀ text₀ (c .read .result) rows text) (same-call (now (start .args .out)) _ _ _ (roomy (c .before .before .before))) (c .read .ensures)
+-- where the call began
+abbrev start : tie.After-read → tie.Start
+start c = c .before .before .before .before .before .before .before .before
 
 refused-requires : tie.Need-refused-requires
 refused-requires c κs = search needs
@@ -53,7 +25,7 @@ returns : tie.Need-returns
 returns c =
     let T = c .before in
     let s = T .before .before .before .before .before in
-    refuses (afresh (called s)) (now (s .args .out)) _ 1 0 0 (no-room (now (s .args .out)) _ _ _ (omega (arith, T .if1 .taken))) (c .refused .ensures)
+    refuses _ (now (s .args .out)) _ 1 0 0 (no-room (now (s .args .out)) _ _ _ (omega (arith, T .if1 .taken))) (c .refused .ensures)
 
 slice-aggregate-read : tie.Need-slice-aggregate-read
 slice-aggregate-read c = search needs
@@ -83,7 +55,7 @@ returns-2 c =
     let T = K .before in
     let N = T .before in
     let R = N .before .before .before in
-    not-written (called (start R)) (now (start R .args .out)) rows₀ text₀ (rows R) (text R) (R .read .result) _ _ _ _ (read-as R) (T .if2 .taken) (N .refusal-number .ensures) (K .refusal-page .ensures) (P .refusal-place .ensures) (c .refused2 .ensures)
+    not-written (now (start R .args .out)) _ _ _ (roomy (R .before .before .before)) _ _ (R .read .result) (R .read .ensures) _ _ _ _ (T .if2 .taken) (N .refusal-number .ensures) (K .refusal-page .ensures) (P .refusal-place .ensures) (c .refused2 .ensures)
 
 slice-aggregate-write : tie.Need-slice-aggregate-write
 slice-aggregate-write c = search needs
@@ -109,7 +81,7 @@ returns-3 c =
     let E = W .before .before .before .before .before in
     let N = E .before in
     let R = N .before .before .before in
-    plan-laid (now (start R .args .out)) _ _ _ rows₀ text₀ (rows R) (text R) (R .read .result) (read-as R) (sym (N .refusal-number .ensures) ∙ E .if2 .left) (roomy (R .before .before .before)) (W .write .result) _ _ _ (W .write .ensures) (c .before .outcome-number .ensures) (c .outcome-place .ensures)
+    plan-laid (now (start R .args .out)) _ _ _ (roomy (R .before .before .before)) _ _ (R .read .result) (R .read .ensures) (sym (N .refusal-number .ensures) ∙ E .if2 .left) (W .write .result) _ _ _ (W .write .ensures) (c .before .outcome-number .ensures) (c .outcome-place .ensures)
 
 pub fresh-pages-spec : {M : Type 1} → statement M
 fresh-pages-spec =

@@ -1,11 +1,10 @@
 -- `tollgilt::input::fresh_input` meets its contract: the pages that the input is split into are written afresh and laid anew, and a refusal is printed in its lines.
 -- Assumes nothing.
-use mathlib.Core.Path.{_≡_, sym}
+use mathlib.Core.Path.{_≡_}
 use mathlib.Core.List.{List}
-use Prim.Native.Nat.{ℕ, _≤_}
+use Prim.Native.Nat.{ℕ}
 use native.Mathlib.Omega.{arith}
-use lib.ListN.{length, take, replicate, length-take, length-replicate}
-use lib.Seq.{length-take-le}
+use lib.ListN.{length, replicate, length-take, length-replicate}
 use denote.Ref.{now}
 use borrow.Author.Needs.{needs}
 use Rattle.tollgilt.proofs.FreshInput.{none-freshly, joinable, pages-printed, refused-fits, refused-printed}
@@ -16,18 +15,8 @@ module _ (c : tie.After-fresh-pages) where
   abbrev split : tie.After-split
   split = c .before .before .before .before .before .before
 
-  abbrev counting : tie.After-counted
-  counting = split .before .before
-
-  -- where the call began
-  abbrev start : tie.Start
-  start = counting .before .before .before .before
-
   abbrev out : List ℕ
-  out = now (start .args .out)
-
-  abbrev input : List ℕ
-  input = now (start .args .input)
+  out = now (split .before .before .before .before .args .out)
 
   -- the room as `fresh_pages` hands it back
   abbrev room : List ℕ
@@ -36,22 +25,12 @@ module _ (c : tie.After-fresh-pages) where
   room-long : length room ≡ 12600
   room-long = search needs
 
-  -- the room is enough
-  roomy : 12608 ≤ length out
-  roomy = counting .before .if1 .left
-
 -- the room for the pages
 rooms : length (replicate {A = ℕ} 12600 0) ≡ 12600
 rooms = length-replicate {A = ℕ} 12600 0
 
 returns : tie.Need-returns
 returns c = let s = c .before .before .before in none-freshly (now (s .args .out)) (now (s .args .input)) (c .if1 .taken)
-
-counted-requires : tie.Need-counted-requires
-counted-requires c κs = search needs
-
-slice-aggregate-part : tie.Need-slice-aggregate-part
-slice-aggregate-part c = sym (length-take-le _ _ (c .before .counted .ensures .0))
 
 split-requires : tie.Need-split-requires
 split-requires c κs = search needs
@@ -81,7 +60,7 @@ join-pages-requires : tie.Need-join-pages-requires
 join-pages-requires c κs =
     let T = c .before .before in
     let L = T .before .before in
-    joinable (out L) (input L) _ (take (counting L .counted .result) (input L)) _ _ (L .fresh-pages .result) (room L) (roomy L) rooms (counting L .counted .ensures .1) (split L .split .ensures .2) (L .fresh-pages .ensures) (T .if2 .taken) (room-long L)
+    joinable (out L) _ _ _ _ (L .fresh-pages .result) (room L) (split L .before .if1 .left) rooms (split L .split .ensures .2) (L .fresh-pages .ensures) (T .if2 .taken) (room-long L)
 
 same-length : tie.Need-same-length
 same-length c = search needs
@@ -91,13 +70,13 @@ returns-2 c =
     let K = c .before .before in
     let T = K .before .before .before in
     let L = T .before .before in
-    pages-printed (out L) (input L) _ (take (counting L .counted .result) (input L)) _ _ (L .fresh-pages .result) (room L) (roomy L) rooms (counting L .counted .ensures .1) (split L .split .ensures .2) (L .fresh-pages .ensures) (T .if2 .taken) _ _ (K .join-pages .ensures)
+    pages-printed (out L) _ _ _ _ (L .fresh-pages .result) (room L) (split L .before .if1 .left) rooms (split L .split .ensures .2) (L .fresh-pages .ensures) (T .if2 .taken) _ _ (K .join-pages .ensures)
 
 list-refusal-requires : tie.Need-list-refusal-requires
 list-refusal-requires c κs =
     let E = c .before in
     let L = E .before .before in
-    refused-fits (out L) (input L) _ (take (counting L .counted .result) (input L)) _ _ (L .fresh-pages .result) (room L) (roomy L) rooms (counting L .counted .ensures .1) (split L .split .ensures .2) (L .fresh-pages .ensures) (E .if2 .left)
+    refused-fits (out L) _ _ _ _ (L .fresh-pages .result) (room L) (split L .before .if1 .left) rooms (split L .split .ensures .2) (L .fresh-pages .ensures) (E .if2 .left)
 
 same-length-2 : tie.Need-same-length-2
 same-length-2 c = search needs
@@ -107,15 +86,13 @@ returns-3 c =
     let R = c .before .before in
     let E = R .before .before in
     let L = E .before .before in
-    refused-printed (out L) (input L) _ (take (counting L .counted .result) (input L)) _ _ (L .fresh-pages .result) (room L) (roomy L) rooms (counting L .counted .ensures .1) (split L .split .ensures .2) (L .fresh-pages .ensures) (E .if2 .left) _ _ (R .list-refusal .ensures)
+    refused-printed (out L) _ _ _ _ (L .fresh-pages .result) (room L) (split L .before .if1 .left) rooms (split L .split .ensures .2) (L .fresh-pages .ensures) (E .if2 .left) _ _ (R .list-refusal .ensures)
 
 pub fresh-input-spec : {M : Type 1} → statement M
 fresh-input-spec =
     tie.close
     (tie.spec
     returns
-    counted-requires
-    slice-aggregate-part
     split-requires
     array-share-prefix-starts
     slice-aggregate-fresh-pages

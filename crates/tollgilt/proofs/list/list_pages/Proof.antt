@@ -1,60 +1,35 @@
 -- `tollgilt::list::list_pages` meets its contract: reading answers the call, and where it gives a plan, the numbers that it laid out are listed.
 -- Assumes nothing.
-use mathlib.Core.Path.{sym, _∙_, subst}
-use mathlib.Core.List.{List}
-use Prim.Native.Nat.{ℕ, _≤_}
+use mathlib.Core.Path.{sym, _∙_}
+use Prim.Native.Nat.{_≤_}
 use native.Mathlib.Omega.{arith}
-use lib.ListN.{length, replicate}
+use lib.ListN.{length}
 use denote.Ref.{now}
 use borrow.Author.Needs.{needs}
-use Rattle.paper.specs.Reading as Paper
-use Rattle.reader.specs.Promise as Reads
 use Rattle.tollgilt.specs.Promise.{answered}
-use Rattle.tollgilt.proofs.ListLaws.{no-room, same-call, nothing-read, nothing-listed, Listable, listable, listed-short, listed}
+use Rattle.tollgilt.proofs.ListLaws.{no-room, nothing-read, nothing-listed, Listable, listable, listed-short, listed}
 use Rattle.tollgilt.proofs.list.list_pages.Statement.{statement}
 use Rattle.tollgilt.proofs.list.list_pages.Tie as tie
-
--- the rows and the text as lent to reading
-abbrev rows₀ : List ℕ
-rows₀ = replicate 12288 0
-
-abbrev text₀ : List ℕ
-text₀ = replicate 12600 0
-
--- document 01's answer
-abbrev answer : tie.Start → Paper.Answer
-answer s = answered (now (s .args .out)) (now (s .args .buffer)) (now (s .args .starts)) (now (s .args .lens))
 
 -- the room is enough
 roomy : (c : tie.Else1) → 25200 ≤ length (now (c .before .before .before .before .before .args .out))
 roomy c = omega (arith, c .if1 .left)
 
-module _ (c : tie.After-read) where
-  -- where the call began
-  abbrev start : tie.Start
-  start = c .before .before .before .before .before .before .before .before
-
-  -- the rows and the text as reading hands them back
-  abbrev rows : List ℕ
-  rows = c .read .last .1 .1 .1 .0
-
-  abbrev text : List ℕ
-  text = c .read .last .1 .1 .1 .1 .0
-
-  -- reading keeps its promise for that answer
-  read-as : Reads.Promised (answer start) rows₀ text₀ (c .read .result) rows text
-  read-as = subst (λ (a : Paper.Answer). Reads.Promised a rows₀ text₀ (c .read .result) rows text) (same-call (now (start .args .out)) _ _ _ (roomy (c .before .before .before))) (c .read .ensures)
+-- where the call began
+abbrev start : tie.After-read → tie.Start
+start c = c .before .before .before .before .before .before .before .before
 
 -- reading gave a plan
-plan-at : (c : tie.Else2) → let R = c .before .before .before .before in Listable (answer (start R)) (R .read .result) (rows R) (text R) (now (start R .args .out))
+plan-at : (c : tie.Else2) → let R = c .before .before .before .before in let a = start R .args in
+    Listable (answered (now (a .out)) (now (a .buffer)) (now (a .starts)) (now (a .lens))) (R .read .result) (R .read .last .1 .1 .1 .0) (R .read .last .1 .1 .1 .1 .0) (now (a .out))
 plan-at c =
     let R = c .before .before .before .before in
-    listable (now (start R .args .out)) _ _ _ rows₀ text₀ (rows R) (text R) (R .read .result) (read-as R) (sym (c .before .refusal-number .ensures) ∙ c .if2 .left) (roomy (R .before .before .before))
+    listable (now (start R .args .out)) _ _ _ (roomy (R .before .before .before)) _ _ (R .read .result) (R .read .ensures) (sym (c .before .refusal-number .ensures) ∙ c .if2 .left)
 
 returns : tie.Need-returns
 returns c =
     let s = c .before .before .before .before .before in
-    nothing-read (answer s) (now (s .args .out)) (no-room (now (s .args .out)) _ _ _ (omega (arith, c .if1 .taken)))
+    nothing-read _ (now (s .args .out)) (no-room (now (s .args .out)) _ _ _ (omega (arith, c .if1 .taken)))
 
 slice-aggregate-read : tie.Need-slice-aggregate-read
 slice-aggregate-read c = search needs
@@ -71,7 +46,7 @@ refusal-number-requires c κs = search needs
 returns-2 : tie.Need-returns-2
 returns-2 c =
     let R = c .before .before .before .before in
-    nothing-listed (answer (start R)) (now (start R .args .out)) rows₀ text₀ (rows R) (text R) (R .read .result) (read-as R) (λ z. c .if2 .taken (c .before .refusal-number .ensures ∙ z))
+    nothing-listed (now (start R .args .out)) _ _ _ (roomy (R .before .before .before)) _ _ (R .read .result) (R .read .ensures) (λ z. c .if2 .taken (c .before .refusal-number .ensures ∙ z))
 
 slice-aggregate-list-plan : tie.Need-slice-aggregate-list-plan
 slice-aggregate-list-plan c = search needs

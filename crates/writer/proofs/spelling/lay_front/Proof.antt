@@ -18,8 +18,8 @@ use borrow.Author.Needs.{needs}
 use Rattle.writer.proofs.spelling.lay_front.Statement.{statement}
 use Rattle.writer.proofs.spelling.lay_front.Tie as tie
 
--- there are 54 numbers, and half as many spans
-twice : (H : tie.After-head-numbers) → length (H .head-numbers .result) ≡ 54
+-- there are 56 numbers, two for each span and two before them
+twice : (H : tie.After-head-numbers) → length (H .head-numbers .result) ≡ 56
 twice H = search needs
 
 long : (H : tie.After-head-numbers) → length (map paperSpan (H .before .before .before .before .before .args .plan .head)) ≡ 27
@@ -30,13 +30,13 @@ abbrev start : tie.After-head-numbers → List ℕ
 start H = let a = H .before .before .before .before .before .args in startText (a .plan .patch) (a .a) (a .z) (a .text .now) (H .head-numbers .result)
 
 abbrev person : tie.After-head-numbers → List ℕ
-person H = tagText (bytes "<P") 6 8 (H .before .before .before .before .before .args .text .now) 4 (H .head-numbers .result) (bytes "/>")
+person H = tagText (bytes "<P") 6 8 (H .before .before .before .before .before .args .text .now) 6 (H .head-numbers .result) (bytes "/>")
 
 abbrev author : tie.After-head-numbers → List ℕ
-author H = tagText (bytes "<A") 14 10 (H .before .before .before .before .before .args .text .now) 20 (H .head-numbers .result) (bytes "/>")
+author H = tagText (bytes "<A") 14 10 (H .before .before .before .before .before .args .text .now) 22 (H .head-numbers .result) (bytes "/>")
 
 abbrev measures : tie.After-head-numbers → List ℕ
-measures H = measuresPart (H .before .before .before .before .before .args .text .now) 40 (H .head-numbers .result)
+measures H = measuresPart (H .before .before .before .before .before .args .text .now) 42 (H .head-numbers .result)
 
 abbrev whole : tie.After-head-numbers → List ℕ
 whole H = start H ++ (person H ++ (author H ++ measures H))
@@ -48,7 +48,7 @@ head-is H =
     head-by (a .text .now) (a .plan) (a .a) (a .z) (H .head-numbers .result) (long H) (S .pre .2) (S .pre .3) (H .head-numbers .ensures) (S .pre .1)
 
 -- its spans lie in the text
-inside-at : (H : tie.After-head-numbers) (j n : ℕ) → j + n ≤ 27 → every (within (length (H .before .before .before .before .before .args .text .now))) (spansAt n (2 * j) (H .head-numbers .result)) ≡ true
+inside-at : (H : tie.After-head-numbers) (j n : ℕ) → j + n ≤ 27 → every (within (length (H .before .before .before .before .before .args .text .now))) (spansAt n (2 + 2 * j) (H .head-numbers .result)) ≡ true
 inside-at H j n h = let S = H .before .before .before .before .before in let a = S .args in head-inside (a .text .now) (a .plan) (H .head-numbers .result) (long H) (H .head-numbers .ensures) (S .pre .1) j n h
 
 fit : (H : tie.After-head-numbers) → let a = H .before .before .before .before .before .args in Fits (a .out .now) (a .at) (whole H)

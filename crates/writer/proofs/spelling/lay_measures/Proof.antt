@@ -5,27 +5,27 @@ use native.Mathlib.Omega.{arith}
 use Rattle.paper.specs.Lists.{bytes}
 use Rattle.listing.proofs.Pieces.{Fits, fits, fits-as, wrote-as, none-written}
 use Rattle.writer.specs.Tags.{tagText, measuresPart}
-use Rattle.writer.proofs.Paged.{measures-none, measures-some}
+use Rattle.writer.proofs.Paged.{measures-by}
 use borrow.Author.Needs.{needs}
 use Rattle.writer.proofs.spelling.lay_measures.Statement.{statement}
 use Rattle.writer.proofs.spelling.lay_measures.Tie as tie
 
 -- an O with a field has its tag
-as-tag : (E : tie.Else1) → let a = E .before .before .before .before .before .before .args in measuresPart (a .text .now) (a .from) (a .numbers .now) ≡ tagText (bytes "<O") 24 7 (a .text .now) (a .from) (a .numbers .now) (bytes "/>")
-as-tag E = let a = E .before .before .before .before .before .before .args in measures-some (a .text .now) (a .from) (a .numbers .now) (sym (E .before .none-present .ensures) ∙ E .if1 .left)
+as-tag : (E : tie.Else1) → let a = E .before .before .before .before .before .before .args in measuresPart (a .text .now) 42 (a .numbers .now) ≡ tagText (bytes "<O") 24 7 (a .text .now) 42 (a .numbers .now) (bytes "/>")
+as-tag E = let a = E .before .before .before .before .before .before .args in measures-by (a .text .now) (a .numbers .now) (sym (E .before .all-absent .ensures) ∙ E .if1 .left)
 
 -- which fits
-fit : (E : tie.Else1) → let a = E .before .before .before .before .before .before .args in Fits (a .out .now) (a .at) (tagText (bytes "<O") 24 7 (a .text .now) (a .from) (a .numbers .now) (bytes "/>"))
+fit : (E : tie.Else1) → let a = E .before .before .before .before .before .before .args in Fits (a .out .now) (a .at) (tagText (bytes "<O") 24 7 (a .text .now) 42 (a .numbers .now) (bytes "/>"))
 fit E = fits-as (as-tag E) (fits (E .before .before .before .before .before .before .pre .3))
 
-none-present-requires : tie.Need-none-present-requires
-none-present-requires c κs = omega (arith, c .before .before .before .before .pre .1)
+all-absent-requires : tie.Need-all-absent-requires
+all-absent-requires c κs = omega (arith, c .before .before .before .before .pre .1)
 
 returns : tie.Need-returns
 returns c =
     let N = c .before in
     let a = N .before .before .before .before .before .args in
-    wrote-as (measures-none (a .text .now) (a .from) (a .numbers .now) (sym (N .none-present .ensures) ∙ c .if1 .taken)) (none-written (a .out .now) (a .at))
+    wrote-as (measures-by (a .text .now) (a .numbers .now) (sym (N .all-absent .ensures) ∙ c .if1 .taken)) (none-written (a .out .now) (a .at))
 
 slice-aggregate-lay-tag : tie.Need-slice-aggregate-lay-tag
 slice-aggregate-lay-tag c = search needs
@@ -46,7 +46,7 @@ pub lay-measures-spec : {M : Type 1} → statement M
 lay-measures-spec =
     tie.close
     (tie.spec
-    none-present-requires
+    all-absent-requires
     returns
     slice-aggregate-lay-tag
     slice-aggregate-lay-tag-2

@@ -20,7 +20,7 @@ abbrev number : tie.Start → List ℕ
 number S = attribute (bytes "p") (decimal (S .args .patch))
 
 abbrev named : tie.Start → List ℕ
-named S = fieldsText 2 2 (S .args .text .now) 0 (S .args .numbers .now)
+named S = fieldsText 2 2 (S .args .text .now) 2 (S .args .numbers .now)
 
 abbrev final : tie.Start → List ℕ
 final S = 32 ∷ 97 ∷ 61 ∷ 34 ∷ (48 + S .args .a) ∷ 34 ∷ 32 ∷ 122 ∷ 61 ∷ 34 ∷ (48 + S .args .z) ∷ 34 ∷ 62 ∷ []

@@ -8,14 +8,15 @@ use native.Mathlib.Omega.{arith}
 use lib.ListN.{length, take, replicate}
 use borrow.Author.Needs.{needs}
 use borrow.Author.Tests.{not-true, not-false}
+use Rattle.paper.specs.Reading.{numbers}
 use Rattle.paper.specs.Plan.{Head, Row}
 use Rattle.paper.specs.Writing.{Written, tooMany, unsound, tooLong, page, pages}
-use Rattle.plan.specs.Numbers.{showHead, showRows}
+use Rattle.plan.specs.Numbers.{rowsLent, showHead, showRows}
 use Rattle.plan.specs.declared.Plan.{Plan}
 use Rattle.sound.specs.Sound.{headSound, firstBadIn}
-use Rattle.writer.specs.Answers.{numbersOf, numbers}
+use Rattle.writer.specs.Answers.{numbersOf}
 use Rattle.writer.specs.Cutting.{measureOf, Cutting, cutOf, Tells}
-use Rattle.writer.specs.Promise.{Promised, answered, callFits, rowsLent}
+use Rattle.writer.specs.Promise.{Promised, answered, callFits}
 use Rattle.writer.specs.declared.writing.Writing.{Writing}
 use Rattle.writer.proofs.Stretches.{bad-row}
 use Rattle.writer.proofs.WritingLaws.{fitting, no-call, bad-head, bad-rows, records, long-head, Paged, decided, no-cut, a-cut, Told, refuses, writes, place-small}

@@ -1,27 +1,25 @@
--- `sound::heads::head_numbers` meets its contract: the numbers are those of the spans that are laid and of the spans to come.
+-- `plan::head_numbers` meets its contract: after j turns the numbers have the first j spans.
 -- Assumes nothing.
-use mathlib.Core.Path.{_≡_, refl}
-use mathlib.Core.List.{[], _∷_, map}
-use Prim.Native.Nat.{_+_, _*_, _-_, _≤_}
+use mathlib.Core.Path.{_≡_, refl, sym, ap, _∙_}
+use mathlib.Core.List.{map}
+use Prim.Native.Nat.{_-_, _≤_}
 use native.Mathlib.Omega.{arith}
-use lib.ListN.{length, take, drop}
-use lib.Seq.{drop-cons}
-use Rattle.markup.proofs.LaidLaws.{Laying, start}
-use Rattle.plan.specs.Numbers.{paperSpan, flat}
-use Rattle.sound.proofs.HeadLaws.{numbers-turn, numbers-done}
+use lib.ListN.{length, length-map, List·getD-map}
+use Rattle.plan.specs.Numbers.{paperSpan, codeSpan}
+use Rattle.plan.specs.Records.{noSpan}
+use Rattle.plan.proofs.Spans.{headUpTo, head-turn, head-done}
 use borrow.Author.Needs.{needs}
-use Rattle.sound.proofs.heads.head_numbers.Statement.{statement}
-use Rattle.sound.proofs.heads.head_numbers.Tie as tie
+use Rattle.plan.proofs.head_numbers.Statement.{statement}
+use Rattle.plan.proofs.head_numbers.Tie as tie
 
 abbrev Inv-loop : tie.InvT-loop
-Inv-loop head numbers₀ j₀ numbers j = (j ≤ 27) × (length numbers₀ ≡ 56) × (take 2 numbers₀ ≡ 0 ∷ 0 ∷ [])
-    × Laying numbers₀ numbers 2 (2 * j + 2) (flat (map paperSpan head)) (flat (map paperSpan (drop j head)))
+Inv-loop head numbers₀ j₀ numbers j = (j ≤ 27) × (length numbers ≡ 56) × (numbers ≡ headUpTo (map paperSpan head) j)
 
 abbrev μ-loop : tie.MeasureT-loop
 μ-loop head numbers₀ j₀ numbers j = 27 - j
 
 loop-holds : tie.Need-loop-holds Inv-loop μ-loop
-loop-holds c = (omega arith, refl, refl, start _ 2 _ (omega arith))
+loop-holds c = (omega arith, refl, refl)
 
 mul-s : tie.Need-mul-s Inv-loop μ-loop
 mul-s c = search needs
@@ -39,7 +37,7 @@ mul-numbers-2 : tie.Need-mul-numbers-2 Inv-loop μ-loop
 mul-numbers-2 c = search needs
 
 array-write-numbers : tie.Need-array-write-numbers Inv-loop μ-loop
-array-write-numbers c = let H = c .before .before .loop .inv in omega (arith, H .1, H .3 .long)
+array-write-numbers c = omega (arith, c .before .before .loop .inv .1)
 
 mul-numbers-3 : tie.Need-mul-numbers-3 Inv-loop μ-loop
 mul-numbers-3 c = search needs
@@ -51,7 +49,7 @@ mul-numbers-4 : tie.Need-mul-numbers-4 Inv-loop μ-loop
 mul-numbers-4 c = search needs
 
 array-write-numbers-2 : tie.Need-array-write-numbers-2 Inv-loop μ-loop
-array-write-numbers-2 c = let H = c .before .before .loop .inv in omega (arith, H .1, H .3 .long)
+array-write-numbers-2 c = omega (arith, c .before .before .loop .inv .1)
 
 add-j : tie.Need-add-j Inv-loop μ-loop
 add-j c = search needs
@@ -63,11 +61,15 @@ loop-again : tie.Need-loop-again Inv-loop μ-loop
 loop-again c =
     let L = c .before .before in
     let head = L .before .args .t1 in
-    let I = L .loop .inv in
-    (search needs, I .1, I .2, numbers-turn head (L .loop .j) _ (c .before .loop-test .taken) (I .1) (drop-cons head (L .loop .j) _ (search needs)) (I .3))
+    let long : length head ≡ 27 = search needs in
+    (search needs, search needs, head-turn (map paperSpan head) (L .loop .j) (omega (arith, length-map head paperSpan, c .before .loop-test .taken)) (c .before .loop-test .taken) (ap codeSpan (sym (List·getD-map paperSpan head (L .loop .j) noSpan))) (L .loop .inv .2))
 
 returns : tie.Need-returns Inv-loop μ-loop
-returns c = let L = c .before in let I = L .loop .inv in numbers-done (L .before .args .t1) (L .loop .j) (c .loop-test .left) (I .0) (search needs) (I .1) (I .2) (I .3)
+returns c =
+    let L = c .before in
+    let head = L .before .args .t1 in
+    let long : length head ≡ 27 = search needs in
+    L .loop .inv .2 ∙ head-done (map paperSpan head) (L .loop .j) (length-map head paperSpan ∙ long) (c .loop-test .left)
 
 pub head-numbers-spec : {M : Type 1} → statement M
 head-numbers-spec =
