@@ -119,7 +119,7 @@ pagesOf c = inOrder (kept (c .pages) (c .lens)) 1 (countOf (c .z))
 
 -- 11 at the lowest missing number, else the pages handed in at once
 unfoldable pub readOf : Collector → Paper.Answer
-readOf c = Paper.first (firstOf (missing c)) (Paper.refusal 11 (firstOf (missing c)) 0) (Paper.read (pagesOf c))
+readOf c = Paper.refuseAt 11 (firstOf (missing c)) (Paper.read (pagesOf c))
 
 -- the same with the rooms that are lent
 unfoldable pub collected : List ℕ → List ℕ → Collector → Paper.Answer

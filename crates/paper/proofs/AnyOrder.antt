@@ -13,7 +13,7 @@ use Rattle.paper.specs.Lists.{if, same}
 use Rattle.paper.proofs.Small.{no, both, neither, same-eq, eqb-comm, and-intro}
 use Rattle.paper.specs.Plan.{Slots, Row, Head, Plan, sameHead, sameSlots}
 use Rattle.paper.specs.Judging.{Sheet, Judged, sheet, refused, judge}
-use Rattle.paper.specs.Reading.{Answer, refusal, plan, Judgement, stopped, sheets, judgeAll, cons, other, has, again, lowest, rowsAt, joined, first, enough, join, decide, read}
+use Rattle.paper.specs.Reading.{Answer, refusal, plan, Judgement, stopped, sheets, judgeAll, cons, page9, has, page10, number11, rowsAt, joined, refuseAt, enough, join, decide, read}
 use Rattle.paper.proofs.Join.{none-lowest, head-self}
 
 -- the same list in another order
@@ -75,19 +75,19 @@ pub record Accept (l : List Sheet) (p : Plan) : Type 0 where
 
 -- the tests of join, both ways
 
-other-alike : (s : Sheet) (k : ℕ) (l : List Sheet) → 1 ≤ k → other s k l ≡ 0 → Alike (s .of) (s .head) l
+other-alike : (s : Sheet) (k : ℕ) (l : List Sheet) → 1 ≤ k → page9 s k l ≡ 0 → Alike (s .of) (s .head) l
 other-alike s k [] h e = tt
 other-alike s k (t ∷ l) h e = at (eqb (t .of) (s .of) && sameHead (t .head) (s .head)) refl e (other-alike s (suc k) l (omega arith))
   where
-    at : (b : Bool) → (eqb (t .of) (s .of) && sameHead (t .head) (s .head)) ≡ b → if b (other s (suc k) l) k ≡ 0 → (other s (suc k) l ≡ 0 → Alike (s .of) (s .head) l) → Alike (s .of) (s .head) (t ∷ l)
+    at : (b : Bool) → (eqb (t .of) (s .of) && sameHead (t .head) (s .head)) ≡ b → if b (page9 s (suc k) l) k ≡ 0 → (page9 s (suc k) l ≡ 0 → Alike (s .of) (s .head) l) → Alike (s .of) (s .head) (t ∷ l)
     at true x e ih = let (a, b) = both (eqb (t .of) (s .of)) (sameHead (t .head) (s .head)) x in (eqb-true (t .of) (s .of) a, head-eq (t .head) (s .head) b, ih e)
     at false x e ih = absurd (omega arith)
 
-pub alike-other : (s : Sheet) (z : ℕ) (h : Head) (k : ℕ) (l : List Sheet) → s .of ≡ z → s .head ≡ h → Alike z h l → other s k l ≡ 0
+pub alike-other : (s : Sheet) (z : ℕ) (h : Head) (k : ℕ) (l : List Sheet) → s .of ≡ z → s .head ≡ h → Alike z h l → page9 s k l ≡ 0
 alike-other s z h k [] p q a = refl
 alike-other s z h k (t ∷ l) p q a = rw (same-test t s (a .0 ∙ sym p) (a .1 ∙ sym q)) (alike-other s z h (suc k) l p q (a .2))
 
-again-fresh : (n : ℕ) (was : List Sheet) (k : ℕ) (l : List Sheet) → 1 ≤ k → has n was ≡ true → again was k l ≡ 0 → has n l ≡ false
+again-fresh : (n : ℕ) (was : List Sheet) (k : ℕ) (l : List Sheet) → 1 ≤ k → has n was ≡ true → page10 was k l ≡ 0 → has n l ≡ false
 again-fresh n was k [] h u e = refl
 again-fresh n was k (t ∷ l) h u e = at (has (t .no) was) refl e (λ v f. again-fresh n (t ∷ was) (suc k) l (omega arith) v f)
   where
@@ -95,20 +95,20 @@ again-fresh n was k (t ∷ l) h u e = at (has (t .no) was) refl e (λ v f. again
     or-right true b e = refl
     or-right false b e = e
 
-    at : (b : Bool) → has (t .no) was ≡ b → if b k (again (t ∷ was) (suc k) l) ≡ 0 → (has n (t ∷ was) ≡ true → again (t ∷ was) (suc k) l ≡ 0 → has n l ≡ false) → (eqb (t .no) n || has n l) ≡ false
+    at : (b : Bool) → has (t .no) was ≡ b → if b k (page10 (t ∷ was) (suc k) l) ≡ 0 → (has n (t ∷ was) ≡ true → page10 (t ∷ was) (suc k) l ≡ 0 → has n l ≡ false) → (eqb (t .no) n || has n l) ≡ false
     at true x e ih = absurd (omega arith)
     at false x e ih =
         let ne : eqb (t .no) n ≡ false = ne-eqb (t .no) n (λ q. no (sym u ∙ (ap (λ (m : ℕ). has m was) (sym q) ∙ x))) in
         rw (ne, ih (or-right (eqb (t .no) n) (has n was) u) e)
 
-again-distinct : (was : List Sheet) (k : ℕ) (l : List Sheet) → 1 ≤ k → again was k l ≡ 0 → Distinct l
+again-distinct : (was : List Sheet) (k : ℕ) (l : List Sheet) → 1 ≤ k → page10 was k l ≡ 0 → Distinct l
 again-distinct was k [] h e = tt
 again-distinct was k (t ∷ l) h e = at (has (t .no) was) e (λ f. again-distinct (t ∷ was) (suc k) l (omega arith) f)
   where
     self : has (t .no) (t ∷ was) ≡ true
     self = rw (eq-eqb (t .no) (t .no) refl)
 
-    at : (b : Bool) → if b k (again (t ∷ was) (suc k) l) ≡ 0 → (again (t ∷ was) (suc k) l ≡ 0 → Distinct l) → Distinct (t ∷ l)
+    at : (b : Bool) → if b k (page10 (t ∷ was) (suc k) l) ≡ 0 → (page10 (t ∷ was) (suc k) l ≡ 0 → Distinct l) → Distinct (t ∷ l)
     at true e ih = absurd (omega arith)
     at false e ih = (again-fresh (t .no) (t ∷ was) (suc k) l (omega arith) self e, ih e)
 
@@ -124,15 +124,15 @@ pub none-nil : (l : List Sheet) → NoneIn [] l
 none-nil [] = tt
 none-nil (t ∷ l) = (refl, none-nil l)
 
-pub distinct-again : (was : List Sheet) (k : ℕ) (l : List Sheet) → NoneIn was l → Distinct l → again was k l ≡ 0
+pub distinct-again : (was : List Sheet) (k : ℕ) (l : List Sheet) → NoneIn was l → Distinct l → page10 was k l ≡ 0
 distinct-again was k [] n d = refl
 distinct-again was k (t ∷ l) n d = rw (n .0) (distinct-again (t ∷ was) (suc k) l (none-more t was l (n .1) (d .0)) (d .1))
 
-lowest-full : (l : List Sheet) (k n : ℕ) → 1 ≤ n → lowest l n k ≡ 0 → (m : ℕ) → n ≤ m → m < n + k → has m l ≡ true
+lowest-full : (l : List Sheet) (k n : ℕ) → 1 ≤ n → number11 l n k ≡ 0 → (m : ℕ) → n ≤ m → m < n + k → has m l ≡ true
 lowest-full l zero n h e m p q = absurd (omega arith)
 lowest-full l (suc k) n h e m p q = at (has n l) refl e (λ f g. lowest-full l k (suc n) (omega arith) f m g (omega arith))
   where
-    at : (b : Bool) → has n l ≡ b → if b (lowest l (suc n) k) n ≡ 0 → (lowest l (suc n) k ≡ 0 → suc n ≤ m → has m l ≡ true) → has m l ≡ true
+    at : (b : Bool) → has n l ≡ b → if b (number11 l (suc n) k) n ≡ 0 → (number11 l (suc n) k ≡ 0 → suc n ≤ m → has m l ≡ true) → has m l ≡ true
     at true x e ih = go (eqb n m) refl
       where
         go : (c : Bool) → eqb n m ≡ c → has m l ≡ true
@@ -144,9 +144,9 @@ abbrev pub isPlan : Answer → Bool
 isPlan (refusal n k i) = false
 isPlan (plan p) = true
 
-first-zero : (k n a b : ℕ) (x : Answer) (p : Plan) → first k (refusal n a b) x ≡ plan p → (k ≡ 0) × (x ≡ plan p)
-first-zero zero n a b x p e = (refl, e)
-first-zero (suc k) n a b x p e = no (sym (ap isPlan e))
+none-at : (n k : ℕ) (x : Answer) (p : Plan) → refuseAt n k x ≡ plan p → (k ≡ 0) × (x ≡ plan p)
+none-at n zero x p e = (refl, e)
+none-at n (suc k) x p e = no (sym (ap isPlan e))
 
 abbrev pub planOf : Plan → Answer → Plan
 planOf d (refusal n k i) = d
@@ -163,11 +163,11 @@ pub accepts : (l : List Sheet) (p : Plan) → join l ≡ plan p → Accept l p
 accepts [] p e = no (sym (ap isPlan e))
 accepts (s ∷ l) p e =
     let q : Plan = record { head = s .head; rows = joined (s ∷ l) 1 (s .of) } in
-    let x₂ : Answer = first (lowest (s ∷ l) 1 (s .of)) (refusal 11 (lowest (s ∷ l) 1 (s .of)) 0) (enough q) in
-    let x₁ : Answer = first (again [] 1 (s ∷ l)) (refusal 10 (again [] 1 (s ∷ l)) 0) x₂ in
-    let (o, e₁) = first-zero (other s 2 l) 9 (other s 2 l) 0 x₁ p e in
-    let (g, e₂) = first-zero (again [] 1 (s ∷ l)) 10 (again [] 1 (s ∷ l)) 0 x₂ p e₁ in
-    let (w, e₃) = first-zero (lowest (s ∷ l) 1 (s .of)) 11 (lowest (s ∷ l) 1 (s .of)) 0 (enough q) p e₂ in
+    let x₂ : Answer = refuseAt 11 (number11 (s ∷ l) 1 (s .of)) (enough q) in
+    let x₁ : Answer = refuseAt 10 (page10 [] 1 (s ∷ l)) x₂ in
+    let (o, e₁) = none-at 9 (page9 s 2 l) x₁ p e in
+    let (g, e₂) = none-at 10 (page10 [] 1 (s ∷ l)) x₂ p e₁ in
+    let (w, e₃) = none-at 11 (number11 (s ∷ l) 1 (s .of)) (enough q) p e₂ in
     let (f, r) = enough-few q p e₃ in
     let hd : s .head ≡ p .head = ap (λ (x : Plan). x .head) r in
     let rs : joined (s ∷ l) 1 (s .of) ≡ p .rows = ap (λ (x : Plan). x .rows) r in
@@ -190,14 +190,14 @@ accepted [] p a = absurd (let h = a .some in omega arith)
 accepted (s ∷ l) p a =
     let z : ℕ = a .count in
     let e : s .of ≡ z = a .alike .0 in
-    let low : lowest (s ∷ l) 1 (s .of) ≡ 0 = none-lowest (s ∷ l) (s .of) 1 (λ m x y. a .full m x (omega arith)) in
+    let low : number11 (s ∷ l) 1 (s .of) ≡ 0 = none-lowest (s ∷ l) (s .of) 1 (λ m x y. a .full m x (omega arith)) in
     let rs : joined (s ∷ l) 1 (s .of) ≡ p .rows = ap (λ (k : ℕ). joined (s ∷ l) 1 k) e ∙ a .rows in
     let pl : _≡_ {A = Plan} (record { head = s .head; rows = joined (s ∷ l) 1 (s .of) }) p = make (s .head) (p .head) (joined (s ∷ l) 1 (s .of)) (p .rows) (a .alike .1) rs in
-    ap (λ (k : ℕ). first k (refusal 9 k 0) (first (again [] 1 (s ∷ l)) (refusal 10 (again [] 1 (s ∷ l)) 0) (first (lowest (s ∷ l) 1 (s .of)) (refusal 11 (lowest (s ∷ l) 1 (s .of)) 0) (enough (record { head = s .head; rows = joined (s ∷ l) 1 (s .of) })))))
+    ap (λ (k : ℕ). refuseAt 9 k (refuseAt 10 (page10 [] 1 (s ∷ l)) (refuseAt 11 (number11 (s ∷ l) 1 (s .of)) (enough (record { head = s .head; rows = joined (s ∷ l) 1 (s .of) })))))
     (alike-other s z (p .head) 2 l e (a .alike .1) (a .alike .2))
-    ∙ (ap (λ (k : ℕ). first k (refusal 10 k 0) (first (lowest (s ∷ l) 1 (s .of)) (refusal 11 (lowest (s ∷ l) 1 (s .of)) 0) (enough (record { head = s .head; rows = joined (s ∷ l) 1 (s .of) }))))
+    ∙ (ap (λ (k : ℕ). refuseAt 10 k (refuseAt 11 (number11 (s ∷ l) 1 (s .of)) (enough (record { head = s .head; rows = joined (s ∷ l) 1 (s .of) }))))
     (distinct-again [] 1 (s ∷ l) (none-nil (s ∷ l)) (a .distinct))
-    ∙ (ap (λ (k : ℕ). first k (refusal 11 k 0) (enough (record { head = s .head; rows = joined (s ∷ l) 1 (s .of) }))) low
+    ∙ (ap (λ (k : ℕ). refuseAt 11 k (enough (record { head = s .head; rows = joined (s ∷ l) 1 (s .of) }))) low
     ∙ (ap enough pl ∙ ap (λ (b : Bool). if b (plan p) (refusal 12 0 0)) (le-leb (length (p .rows)) 256 (a .few)))))
   where
     make : (h h′ : Head) (r r′ : List Row) → h ≡ h′ → r ≡ r′ → _≡_ {A = Plan} (record { head = h; rows = r }) (record { head = h′; rows = r′ })

@@ -9,7 +9,7 @@ use lib.ListN.{length}
 use Rattle.paper.specs.Lists.{if}
 use Rattle.paper.specs.Fields.{S}
 use Rattle.paper.specs.Plan.{Head, Row, Plan}
-use Rattle.paper.specs.Writing.{Written, tooMany, unsound, tooLong, written, sound, opening, bodyText, rowSlots, heading, page, pages, place13}
+use Rattle.paper.specs.Writing.{Written, badCall, unsound, tooLong, written, sound, opening, bodyText, rowSlots, heading, page, pages, place13}
 use Rattle.paper.proofs.AnyCut as C
 
 -- what a row adds to a page; a heading with the end of its S
@@ -36,4 +36,4 @@ laySized p (some (q ∷ qs)) = if (leb (length (q ∷ qs)) 9) (written (pages (p
 unfoldable pub sized : Plan → Written
 sized p = if (leb (length (p .rows)) 256)
     (if (sound p) (if (leb (base (p .head)) 1400) (laySized p (greedy p)) (tooLong 0)) (unsound (place13 p)))
-    tooMany
+    badCall

@@ -13,7 +13,7 @@ use borrow.Author.Tests.{leb-true, leb-false, le-leb}
 use Rattle.paper.specs.Lists.{if, concat}
 use Rattle.paper.specs.Plan.{Plan}
 use Rattle.paper.specs.Judging.{Sheet, Judged, refused, sheet, judge}
-use Rattle.paper.specs.Reading.{Answer, refusal, plan, Judgement, stopped, sheets, cons, judgeAll, other, again, lowest, joined, first, enough, join, decide, read}
+use Rattle.paper.specs.Reading.{Answer, refusal, plan, Judgement, stopped, sheets, cons, judgeAll, page9, page10, number11, joined, refuseAt, enough, join, decide, read}
 use Rattle.paper.specs.Calls.{inside, pagesAt, readAt}
 use Rattle.paper.proofs.Small.{no, both, and-intro}
 use Rattle.paper.proofs.PageNumbers.{two-to-eight}
@@ -25,9 +25,9 @@ abbrev Ranged : Answer → Type 0
 Ranged (refusal n k i) = (2 ≤ n) × (n ≤ 12)
 Ranged (plan p) = Unit {0}
 
-ranged-first : (n : ℕ) (r a : Answer) → Ranged r → Ranged a → Ranged (first n r a)
-ranged-first zero r a x y = y
-ranged-first (suc n) r a x y = x
+ranged-at : (n k : ℕ) (a : Answer) → 2 ≤ n → n ≤ 12 → Ranged a → Ranged (refuseAt n k a)
+ranged-at n zero a l m y = y
+ranged-at n (suc k) a l m y = (l, m)
 
 ranged-enough : (p : Plan) → Ranged (enough p)
 ranged-enough p = at (leb (length (p .rows)) 256)
@@ -39,13 +39,13 @@ ranged-enough p = at (leb (length (p .rows)) 256)
 ranged-join : (s : Sheet) (l : List Sheet) → Ranged (join (s ∷ l))
 ranged-join s l =
     let q : Plan = record { head = s .head; rows = joined (s ∷ l) 1 (s .of) } in
-    let w : ℕ = lowest (s ∷ l) 1 (s .of) in
-    let g : ℕ = again [] 1 (s ∷ l) in
-    let o : ℕ = other s 2 l in
-    let x₂ : Answer = first w (refusal 11 w 0) (enough q) in
-    let x₁ : Answer = first g (refusal 10 g 0) x₂ in
-    ranged-first o (refusal 9 o 0) x₁ (omega arith, omega arith)
-    (ranged-first g (refusal 10 g 0) x₂ (omega arith, omega arith) (ranged-first w (refusal 11 w 0) (enough q) (omega arith, omega arith) (ranged-enough q)))
+    let w : ℕ = number11 (s ∷ l) 1 (s .of) in
+    let g : ℕ = page10 [] 1 (s ∷ l) in
+    let o : ℕ = page9 s 2 l in
+    let x₂ : Answer = refuseAt 11 w (enough q) in
+    let x₁ : Answer = refuseAt 10 g x₂ in
+    ranged-at 9 o x₁ (omega arith) (omega arith)
+    (ranged-at 10 g x₂ (omega arith) (omega arith) (ranged-at 11 w (enough q) (omega arith) (omega arith) (ranged-enough q)))
 
 -- what judging pages can stop with
 abbrev Stops : Judgement → Type 0

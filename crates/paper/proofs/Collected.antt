@@ -12,7 +12,7 @@ use borrow.Author.Tests.{eqb-true, eqb-false, eq-eqb, ne-eqb, le-leb}
 use Rattle.paper.specs.Lists.{if, same}
 use Rattle.paper.specs.Plan.{Head, Plan, sameHead}
 use Rattle.paper.specs.Judging.{Sheet, Judged, refused, sheet, judge}
-use Rattle.paper.specs.Reading.{Answer, refusal, plan, sheets, cons, judgeAll, has, again, lowest, joined, first, enough, join, decide, read}
+use Rattle.paper.specs.Reading.{Answer, refusal, plan, sheets, cons, judgeAll, has, page10, number11, joined, refuseAt, enough, join, decide, read}
 use Rattle.paper.specs.Collecting.{Kept, Collector, cleared, added, alreadyHere, refusedWith, Adding, unchanged, agrees, bytesAt, sheetsIn, pagesIn, add-judged, add, without, missingIn, missingNumbers, missingCount, readCollected}
 use Rattle.paper.proofs.Small.{no, both, neither, same-eq, same-self, eqb-comm, and-intro}
 use Rattle.paper.proofs.AnyOrder.{Perm, head-eq, Alike, Distinct, Accept, accepts, isPlan, Each, each-judged, judged-each, any-order}
@@ -307,11 +307,11 @@ abbrev firstOf : List ℕ → ℕ
 firstOf [] = 0
 firstOf (m ∷ ms) = m
 
-lowest-first : (l : List Sheet) (k n : ℕ) → lowest l n k ≡ firstOf (without l n k)
+lowest-first : (l : List Sheet) (k n : ℕ) → number11 l n k ≡ firstOf (without l n k)
 lowest-first l zero n = refl
 lowest-first l (suc k) n = at (has n l) (lowest-first l k (suc n))
   where
-    at : (b : Bool) → lowest l (suc n) k ≡ firstOf (without l (suc n) k) → if b (lowest l (suc n) k) n ≡ firstOf (if b (without l (suc n) k) (n ∷ without l (suc n) k))
+    at : (b : Bool) → number11 l (suc n) k ≡ firstOf (without l (suc n) k) → if b (number11 l (suc n) k) n ≡ firstOf (if b (without l (suc n) k) (n ∷ without l (suc n) k))
     at true e = e
     at false e = refl
 
@@ -326,7 +326,7 @@ abbrev pub planIn : Kept → Collector → Plan
 planIn k c = record { head = k .says .head; rows = joined (sheetsIn (k ∷ c)) 1 (k .says .of) }
 
 -- what a collector with pages reads as: 11 at the first missing number, else its plan or 12
-reads : (k : Kept) (c : Collector) → Holds (k ∷ c) → readCollected (k ∷ c) ≡ first (firstOf (missingNumbers (k ∷ c))) (refusal 11 (firstOf (missingNumbers (k ∷ c))) 0) (enough (planIn k c))
+reads : (k : Kept) (c : Collector) → Holds (k ∷ c) → readCollected (k ∷ c) ≡ refuseAt 11 (firstOf (missingNumbers (k ∷ c))) (enough (planIn k c))
 unfolding readCollected read missingNumbers
 reads k c H =
     let ps : List (List ℕ) = pagesIn (k ∷ c) in
@@ -337,7 +337,7 @@ reads k c H =
     ap (λ (b : Bool). if b (decide (judgeAll 1 ps)) (refusal 1 0 0)) count
     ∙ (ap decide (each-judged 1 ps l (H .judged))
     ∙ (joins-alike (k .says) (sheetsIn c) z (k .says .head) (from-first (k .says) (sheetsIn c) (H .alike)) (H .distinct)
-    ∙ ap (λ (n : ℕ). first n (refusal 11 n 0) (enough (planIn k c))) (lowest-first l z 1)))
+    ∙ ap (λ (n : ℕ). refuseAt 11 n (enough (planIn k c))) (lowest-first l z 1)))
 
 -- "Complete, it reads as the same pages handed in at once": in whatever order; and so does an incomplete one
 pub as-handed-in : {c : Collector} → Reached c → (f : List (List ℕ)) → Perm (pagesIn c) f → read f ≡ readCollected c
@@ -351,13 +351,13 @@ as-handed-in {c} r f p = at c f (holds r) p
 
 -- where nothing is missing it reads as its plan, or as 12
 pub complete : (k : Kept) (c : Collector) → Reached (k ∷ c) → missingNumbers (k ∷ c) ≡ [] → readCollected (k ∷ c) ≡ enough (planIn k c)
-complete k c r e = reads k c (holds r) ∙ ap (λ (ms : List ℕ). first (firstOf ms) (refusal 11 (firstOf ms) 0) (enough (planIn k c))) e
+complete k c r e = reads k c (holds r) ∙ ap (λ (ms : List ℕ). refuseAt 11 (firstOf ms) (enough (planIn k c))) e
 
 -- "incomplete, with 11", at the lowest missing number
 pub incomplete : {c : Collector} → Reached c → (n : ℕ) (ns : List ℕ) → missingNumbers c ≡ n ∷ ns → readCollected c ≡ refusal 11 n 0
 incomplete {c} r n ns e = at c (holds r) (up-to-nine r) e
   where
-    above : (n : ℕ) (a : Answer) → 1 ≤ n → first n (refusal 11 n 0) a ≡ refusal 11 n 0
+    above : (n : ℕ) (a : Answer) → 1 ≤ n → refuseAt 11 n a ≡ refusal 11 n 0
     above zero a h = absurd (omega arith)
     above (suc n) a h = refl
 
@@ -365,7 +365,7 @@ incomplete {c} r n ns e = at c (holds r) (up-to-nine r) e
     at [] H u e = let f : [] ≡ n ∷ ns = sym empty-none ∙ e in unequal (cc)
     at (k ∷ c) H u e =
         let low : Rising 1 10 (n ∷ ns) = subst (Rising 1 10) e u in
-        reads k c H ∙ (ap (λ (ms : List ℕ). first (firstOf ms) (refusal 11 (firstOf ms) 0) (enough (planIn k c))) e ∙ above n (enough (planIn k c)) (low .0))
+        reads k c H ∙ (ap (λ (ms : List ℕ). refuseAt 11 (firstOf ms) (enough (planIn k c))) e ∙ above n (enough (planIn k c)) (low .0))
 
 -- "empty, with 1"
 pub empty-one : readCollected cleared ≡ refusal 1 0 0
@@ -468,7 +468,7 @@ unfolding add
 broken-first c w n i j = rw j
 
 -- where none is refused with 9 or 10, what is left is 11, 12 or a plan
-left : (n : ℕ) (p : Plan) (m k i : ℕ) → m ≤ 10 → first n (refusal 11 n 0) (enough p) ≡ refusal m k i → ⊥
+left : (n : ℕ) (p : Plan) (m k i : ℕ) → m ≤ 10 → refuseAt 11 n (enough p) ≡ refusal m k i → ⊥
 left zero p m k i h e = at (leb (length (p .rows)) 256) e
   where
     at : (b : Bool) → if b (plan p) (refusal 12 0 0) ≡ refusal m k i → ⊥
@@ -490,23 +490,23 @@ as-read-alone c w n i h = (λ e. there (way c w) e, λ e. back (judge w) refl e)
 
     back : (j : Judged) → judge w ≡ j → decide (cons j 1 (sheets [])) ≡ refusal n 1 i → (add c w) .answer ≡ refusedWith n i
     back (refused m j) q e = ap (λ (r : Adding). r .answer) (broken-first c w m j q) ∙ (cc)
-    back (sheet s) q e = absurd (left (lowest (s ∷ []) 1 (s .of)) (record { head = s .head; rows = joined (s ∷ []) 1 (s .of) }) n 1 i (omega arith) e)
+    back (sheet s) q e = absurd (left (number11 (s ∷ []) 1 (s .of)) (record { head = s .head; rows = joined (s ∷ []) 1 (s .of) }) n 1 i (omega arith) e)
 
 -- "then 9 against its first page": as joining the first page and this one would be refused
 pub agrees-nine : (s : Sheet) (k : Kept) (c : Collector) → (agrees s (k ∷ c) ≡ false) ↔ (join (k .says ∷ s ∷ []) ≡ refusal 9 2 0)
-agrees-nine s k c = nine-when (agrees s (k ∷ c)) (first ten (refusal 10 ten 0) rest) (not-nine ten)
+agrees-nine s k c = nine-when (agrees s (k ∷ c)) (refuseAt 10 ten rest) (not-nine ten)
   where
     ten : ℕ
-    ten = again [] 1 (k .says ∷ s ∷ [])
+    ten = page10 [] 1 (k .says ∷ s ∷ [])
 
     rest : Answer
-    rest = first (lowest (k .says ∷ s ∷ []) 1 (k .says .of)) (refusal 11 (lowest (k .says ∷ s ∷ []) 1 (k .says .of)) 0) (enough (record { head = k .says .head; rows = joined (k .says ∷ s ∷ []) 1 (k .says .of) }))
+    rest = refuseAt 11 (number11 (k .says ∷ s ∷ []) 1 (k .says .of)) (enough (record { head = k .says .head; rows = joined (k .says ∷ s ∷ []) 1 (k .says .of) }))
 
-    not-nine : (t : ℕ) → first t (refusal 10 t 0) rest ≡ refusal 9 2 0 → ⊥
-    not-nine zero e = left (lowest (k .says ∷ s ∷ []) 1 (k .says .of)) (record { head = k .says .head; rows = joined (k .says ∷ s ∷ []) 1 (k .says .of) }) 9 2 0 (omega arith) e
+    not-nine : (t : ℕ) → refuseAt 10 t rest ≡ refusal 9 2 0 → ⊥
+    not-nine zero e = left (number11 (k .says ∷ s ∷ []) 1 (k .says .of)) (record { head = k .says .head; rows = joined (k .says ∷ s ∷ []) 1 (k .says .of) }) 9 2 0 (omega arith) e
     not-nine (suc t) e = let q : _≡_ {A = ℕ} 10 9 = cc in omega arith
 
-    nine-when : (b : Bool) (x : Answer) → (x ≡ refusal 9 2 0 → ⊥) → (b ≡ false) ↔ (first (if b 0 2) (refusal 9 (if b 0 2) 0) x ≡ refusal 9 2 0)
+    nine-when : (b : Bool) (x : Answer) → (x ≡ refusal 9 2 0 → ⊥) → (b ≡ false) ↔ (refuseAt 9 (if b 0 2) x ≡ refusal 9 2 0)
     nine-when true x h = (λ e. no e, λ e. absurd (h e))
     nine-when false x h = (λ e. refl, λ e. refl)
 

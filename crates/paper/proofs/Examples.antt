@@ -12,7 +12,7 @@ use Rattle.paper.specs.Fields.{Kind, unknown, P, A, O, S, M, W, R, X, Fi
 use Rattle.paper.specs.Plan.{Slots, Head, Row, Plan, blank}
 use Rattle.paper.specs.Judging.{judge, tail}
 use Rattle.paper.specs.Reading.{Answer, refusal, plan, read}
-use Rattle.paper.specs.Writing.{Written, tooMany, unsound, tooLong, written, goodElement, soundHead, soundRow, page, cuttable, place14, fresh}
+use Rattle.paper.specs.Writing.{Written, badCall, unsound, tooLong, written, goodElement, soundHead, soundRow, page, cuttable, place14, fresh}
 use Rattle.paper.specs.Listing.{planLines, listing, refusalLines, planlist}
 use Rattle.paper.proofs.NineCases.{Case, case, refused, alike, lists, right, sheet, medication}
 
@@ -126,7 +126,7 @@ freshOf (refusal n k i) = []
 freshOf (plan p) = pagesOf (fresh p)
   where
     pagesOf : Written → List (List ℕ)
-    pagesOf tooMany = []
+    pagesOf badCall = []
     pagesOf (unsound r) = []
     pagesOf (tooLong r) = []
     pagesOf (written f) = f
@@ -284,7 +284,7 @@ try p n i = record { handed = p; number = n; place = i }
 
 -- the writer's answer is as expected
 abbrev answered : Written → ℕ → ℕ → Bool
-answered tooMany n i = eqb n 1 && eqb i 0
+answered badCall n i = eqb n 1 && eqb i 0
 answered (unsound r) n i = eqb n 13 && eqb i r
 answered (tooLong r) n i = eqb n 14 && eqb i r
 answered (written f) n i = eqb n 0 && eqb i (length f)

@@ -13,7 +13,7 @@ use Rattle.paper.specs.Lists.{concat, bytes, if, every, isEmpty, same}
 use Rattle.paper.proofs.Small.{no, both}
 use Rattle.paper.specs.Fields.{Kind, S, M, W, R, X, Field, fieldsOf, tagName}
 use Rattle.paper.specs.Plan.{Slots, Row, Head, Plan, slot}
-use Rattle.paper.specs.Writing.{Written, tooMany, unsound, tooLong, written, sound, soundHead, soundRow, goodElement, spelled, bare, wsText, decimal, pages, heading, place13}
+use Rattle.paper.specs.Writing.{Written, badCall, unsound, tooLong, written, sound, soundHead, soundRow, goodElement, spelled, bare, wsText, decimal, pages, heading, place13}
 use Rattle.paper.proofs.BySize.{rowSize, base, greedy, laySized, none-cut, sized}
 use Rattle.paper.proofs.Element.{good-slots, good-whole}
 use Rattle.paper.proofs.Rows.{View, head, med, rec, free, AllSound, all-sound}
@@ -110,7 +110,7 @@ head-fits h l k n c = at (c .parts) (c .fit) (c .count) (c .one)
 -- ---- the theorems
 
 pub data Way (p : Plan) (w : Written) : Type 0 where
-  many : leb (length (p .rows)) 256 ≡ false → w ≡ tooMany → Way p w
+  many : leb (length (p .rows)) 256 ≡ false → w ≡ badCall → Way p w
   bad : sound p ≡ false → (r : ℕ) → w ≡ unsound r → Way p w
   long : 1400 < base (p .head) → w ≡ tooLong 0 → Way p w
   laid : base (p .head) ≤ 1400 → AllSound (p .rows) → w ≡ laySized p (greedy p) → Way p w
@@ -120,7 +120,7 @@ unfolding sized
 way p = at (leb (length (p .rows)) 256) refl (sound p) refl (leb (base (p .head)) 1400) refl
   where
     at : (b : Bool) → leb (length (p .rows)) 256 ≡ b → (c : Bool) → sound p ≡ c → (d : Bool) → leb (base (p .head)) 1400 ≡ d
-        → Way p (if b (if c (if d (laySized p (greedy p)) (tooLong 0)) (unsound (place13 p))) tooMany)
+        → Way p (if b (if c (if d (laySized p (greedy p)) (tooLong 0)) (unsound (place13 p))) badCall)
     at true x true y true t = laid (leb-true (base (p .head)) 1400 t) (all-sound (p .rows) (both (soundHead (p .head)) (every soundRow (p .rows)) y .1)) refl
     at true x true y false t = long (leb-false (base (p .head)) 1400 t) refl
     at true x false y d t = bad y (place13 p) refl
@@ -139,13 +139,13 @@ laid-few p f j k (some (q ∷ qs)) m g l e = at (leb (length (q ∷ qs)) 9) e
     at false e = no (sym (ap isWritten e))
 
 abbrev placeOf : Written → ℕ
-placeOf tooMany = 0
+placeOf badCall = 0
 placeOf (unsound r) = 0
 placeOf (tooLong r) = r
 placeOf (written f) = 0
 
 abbrev isLong : Written → Bool
-isLong tooMany = false
+isLong badCall = false
 isLong (unsound r) = false
 isLong (tooLong r) = true
 isLong (written f) = false

@@ -11,7 +11,7 @@ use Rattle.paper.specs.Lists.{concat}
 use Rattle.paper.proofs.Small.{no, same-self}
 use Rattle.paper.specs.Plan.{Slots, Row, Head, sameHead, sameSlots}
 use Rattle.paper.specs.Judging.{Sheet}
-use Rattle.paper.specs.Reading.{plan, other, has, again, lowest, joined, join}
+use Rattle.paper.specs.Reading.{plan, page9, has, page10, number11, joined, join}
 use Rattle.paper.proofs.Sheets.{theSheet}
 
 abbrev pub theSheets : Head → ℕ → ℕ → List (List Row) → List Sheet
@@ -25,7 +25,7 @@ slots-self (v ∷ vs) = rw (same-self v, slots-self vs)
 pub head-self : (h : Head) → sameHead h h ≡ true
 head-self h = rw (eq-eqb (h .patch) (h .patch) refl, same-self (h .ident), same-self (h .lang), slots-self (h .person), slots-self (h .author), slots-self (h .measures))
 
-no-other : (h : Head) (z : ℕ) (r : List Row) (b k a : ℕ) (qs : List (List Row)) → other (theSheet h r b z) k (theSheets h z a qs) ≡ 0
+no-other : (h : Head) (z : ℕ) (r : List Row) (b k a : ℕ) (qs : List (List Row)) → page9 (theSheet h r b z) k (theSheets h z a qs) ≡ 0
 no-other h z r b k a [] = refl
 no-other h z r b k a (q ∷ qs) = rw (eq-eqb z z refl, head-self h) (no-other h z r b (suc k) (suc a) qs)
 
@@ -42,7 +42,7 @@ below-more : (a : ℕ) (l : List Sheet) → Below a l → Below (suc a) l
 below-more a [] h = tt
 below-more a (s ∷ l) h = (omega arith, below-more a l (h .1))
 
-no-again : (h : Head) (z : ℕ) (was : List Sheet) (k a : ℕ) (qs : List (List Row)) → Below a was → again was k (theSheets h z a qs) ≡ 0
+no-again : (h : Head) (z : ℕ) (was : List Sheet) (k a : ℕ) (qs : List (List Row)) → Below a was → page10 was k (theSheets h z a qs) ≡ 0
 no-again h z was k a [] b = refl
 no-again h z was k a (q ∷ qs) b = rw (below-has a was b) (no-again h z (theSheet h q a z ∷ was) (suc k) (suc a) qs (omega arith, below-more a was b))
 
@@ -54,7 +54,7 @@ has-one h z n a (r ∷ qs) p q = at (eqb a n) refl (λ g. has-one h z n (suc a) 
     at true e ih = rw e
     at false e ih = let ne = eqb-false a n e in rw (e, ih (omega arith))
 
-pub none-lowest : (l : List Sheet) (k n : ℕ) → ((m : ℕ) → n ≤ m → m < n + k → has m l ≡ true) → lowest l n k ≡ 0
+pub none-lowest : (l : List Sheet) (k n : ℕ) → ((m : ℕ) → n ≤ m → m < n + k → has m l ≡ true) → number11 l n k ≡ 0
 none-lowest l zero n h = refl
 none-lowest l (suc k) n h = rw (h n (omega arith) (omega arith)) (none-lowest l k (suc n) (λ m p q. h m (omega arith) (omega arith)))
 

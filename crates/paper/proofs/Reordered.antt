@@ -6,19 +6,19 @@ use Prim.Native.Nat.{ℕ, zero, suc}
 use native.Mathlib.Omega.{arith}
 use Rattle.paper.specs.Plan.{Head}
 use Rattle.paper.specs.Judging.{Sheet}
-use Rattle.paper.specs.Reading.{refusal, lowest, joined, first, enough, join, read}
+use Rattle.paper.specs.Reading.{refusal, number11, joined, refuseAt, enough, join, read}
 use Rattle.paper.proofs.AnyOrder.{Perm, Alike, Distinct, Each, each-judged, perm-length, alike-other, none-nil, distinct-again, perm-alike, perm-has, perm-distinct, perm-rows, same-joined, perm-each}
 
 -- ---- what joining them gives
 
 -- 11, or the plan, or 12: 9 and 10 are ruled out
 pub joins-alike : (s : Sheet) (l : List Sheet) (z : ℕ) (h : Head) → Alike z h (s ∷ l) → Distinct (s ∷ l)
-    → join (s ∷ l) ≡ first (lowest (s ∷ l) 1 z) (refusal 11 (lowest (s ∷ l) 1 z) 0) (enough (record { head = h; rows = joined (s ∷ l) 1 z }))
+    → join (s ∷ l) ≡ refuseAt 11 (number11 (s ∷ l) 1 z) (enough (record { head = h; rows = joined (s ∷ l) 1 z }))
 joins-alike s l z h a d =
     rw (alike-other s z h 2 l (a .0) (a .1) (a .2), distinct-again [] 1 (s ∷ l) (none-nil (s ∷ l)) d, a .0, a .1)
 
 -- the lowest missing number does not depend on the order
-perm-lowest : {l m : List Sheet} → Perm l m → (k n : ℕ) → lowest l n k ≡ lowest m n k
+perm-lowest : {l m : List Sheet} → Perm l m → (k n : ℕ) → number11 l n k ≡ number11 m n k
 perm-lowest p zero n = refl
 perm-lowest p (suc k) n = rw (perm-has n p, perm-lowest p k (suc n))
 

@@ -13,7 +13,7 @@ use Rattle.paper.specs.Lists.{concat, if, every}
 use Rattle.paper.proofs.Small.{no, both}
 use Rattle.paper.specs.Plan.{Row, Head, Plan}
 use Rattle.paper.specs.Reading.{plan, sheets, judgeAll, read}
-use Rattle.paper.specs.Writing.{Written, tooMany, unsound, tooLong, written, sound, soundHead, soundRow, page, pages, heading, place13}
+use Rattle.paper.specs.Writing.{Written, badCall, unsound, tooLong, written, sound, soundHead, soundRow, page, pages, heading, place13}
 use Rattle.paper.proofs.BySize.{rowSize, base, greedy, laySized, none-cut, sized}
 use Rattle.paper.proofs.Sheets.{SoundHead, head-sound, page-judged}
 use Rattle.paper.proofs.Rows.{AllSound, all-sound}
@@ -75,13 +75,13 @@ pub record Gave (p : Plan) (f : List (List ℕ)) : Type 0 where
   pub are : f ≡ pages (p .head) (length (first ∷ others)) 1 (first ∷ others)
 
 abbrev pub isWritten : Written → Bool
-isWritten tooMany = false
+isWritten badCall = false
 isWritten (unsound r) = false
 isWritten (tooLong r) = false
 isWritten (written f) = true
 
 abbrev pub theirs : Written → List (List ℕ)
-theirs tooMany = []
+theirs badCall = []
 theirs (unsound r) = []
 theirs (tooLong r) = []
 theirs (written f) = f
@@ -121,7 +121,7 @@ unfolding sized
 gave p f e = at (leb (length (p .rows)) 256) refl (sound p) refl (leb (base (p .head)) 1400) refl e
   where
     at : (b : Bool) → leb (length (p .rows)) 256 ≡ b → (c : Bool) → sound p ≡ c → (d : Bool) → leb (base (p .head)) 1400 ≡ d
-        → if b (if c (if d (laySized p (greedy p)) (tooLong 0)) (unsound (place13 p))) tooMany ≡ written f → Gave p f
+        → if b (if c (if d (laySized p (greedy p)) (tooLong 0)) (unsound (place13 p))) badCall ≡ written f → Gave p f
     at true x true y true t e =
         let (g, r) = both (soundHead (p .head)) (every soundRow (p .rows)) y in
         laid p f (leb-true (length (p .rows)) 256 x) (head-sound (p .head) g) (all-sound (p .rows) r) (leb-true (base (p .head)) 1400 t)

@@ -13,7 +13,7 @@ use lib.Seq.{take-length}
 use borrow.Author.Tests.{leb-true, leb-false, le-leb, lt-leb}
 use Rattle.paper.specs.Lists.{concat, if, every}
 use Rattle.paper.specs.Plan.{Head, Row, Plan}
-use Rattle.paper.specs.Writing.{Written, tooMany, unsound, tooLong, written, sound, soundHead, soundRow, heading, page, pages, fits, fill, cuttable, firstWithout, place13, place14, lay, fresh}
+use Rattle.paper.specs.Writing.{Written, badCall, unsound, tooLong, written, sound, soundHead, soundRow, heading, page, pages, fits, fill, cuttable, firstWithout, place13, place14, lay, fresh}
 use Rattle.paper.specs.Cuts.{Fits, Cut≤}
 use Rattle.paper.proofs.Small.{no, both}
 use Rattle.paper.proofs.AnyCut as C
@@ -272,9 +272,9 @@ pub fresh-sized : (p : Plan) → fresh p ≡ sized p
 unfolding fresh sized
 fresh-sized p = at (sound p) refl
   where
-    at : (t : Bool) → sound p ≡ t → (if (leb (length (p .rows)) 256) (if t (lay (p .head) (p .rows)) (unsound (place13 p))) tooMany)
-        ≡ (if (leb (length (p .rows)) 256) (if t (if (leb (base (p .head)) 1400) (laySized p (greedy p)) (tooLong 0)) (unsound (place13 p))) tooMany)
+    at : (t : Bool) → sound p ≡ t → (if (leb (length (p .rows)) 256) (if t (lay (p .head) (p .rows)) (unsound (place13 p))) badCall)
+        ≡ (if (leb (length (p .rows)) 256) (if t (if (leb (base (p .head)) 1400) (laySized p (greedy p)) (tooLong 0)) (unsound (place13 p))) badCall)
     at true s =
-        ap (λ (w : Written). if (leb (length (p .rows)) 256) w tooMany)
+        ap (λ (w : Written). if (leb (length (p .rows)) 256) w badCall)
         (laid (p .head) (p .rows) (all-sound (p .rows) (both (soundHead (p .head)) (every soundRow (p .rows)) s .1)))
     at false s = refl

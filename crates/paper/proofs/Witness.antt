@@ -11,7 +11,7 @@ use Rattle.paper.specs.Plan.{Slots, Head, Row, Plan}
 use Rattle.paper.specs.Values.{value}
 use Rattle.paper.specs.Judging.{judge}
 use Rattle.paper.specs.Reading.{refusal, plan, read}
-use Rattle.paper.specs.Writing.{Written, tooMany, unsound, tooLong, written, goodElement, soundHead, soundRow, page, cuttable, place14, fresh}
+use Rattle.paper.specs.Writing.{Written, badCall, unsound, tooLong, written, goodElement, soundHead, soundRow, page, cuttable, place14, fresh}
 
 -- text with each mark that a fresh page spells as a reference
 abbrev quoted : List ℕ
@@ -58,7 +58,7 @@ abbrev tenPages : Plan
 tenPages = record { head = thePlan .head; rows = replicate 10 (row R 0 (replicate 100 34 ∷ [] ∷ []) []) }
 
 abbrev theirs : Written → List (List ℕ)
-theirs tooMany = []
+theirs badCall = []
 theirs (unsound r) = []
 theirs (tooLong r) = []
 theirs (written f) = f

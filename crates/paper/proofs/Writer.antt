@@ -13,7 +13,7 @@ use borrow.Author.Tests.{leb-true, leb-false, ltb-true, ltb-false}
 use Rattle.paper.specs.Lists.{concat, if, every}
 use Rattle.paper.specs.Plan.{Head, Row, Plan}
 use Rattle.paper.specs.Reading.{plan, read}
-use Rattle.paper.specs.Writing.{Written, tooMany, unsound, tooLong, written, sound, soundHead, soundRow, heading, page, pages, cuttable, fill, firstBad, place13, place14, fresh}
+use Rattle.paper.specs.Writing.{Written, badCall, unsound, tooLong, written, sound, soundHead, soundRow, heading, page, pages, cuttable, fill, firstBad, place13, place14, fresh}
 use Rattle.paper.specs.Cuts.{Fits, Cut, Cut≤}
 use Rattle.paper.proofs.Small.{no, both}
 use Rattle.paper.proofs.AnyCut as C
@@ -99,19 +99,19 @@ room p f e =
 
 -- the refusal number of an answer, 0 for pages
 abbrev refusalOf : Written → ℕ
-refusalOf tooMany = 1
+refusalOf badCall = 1
 refusalOf (unsound r) = 13
 refusalOf (tooLong r) = 14
 refusalOf (written f) = 0
 
 abbrev placeOf : Written → ℕ
-placeOf tooMany = 0
+placeOf badCall = 0
 placeOf (unsound r) = r
 placeOf (tooLong r) = r
 placeOf (written f) = 0
 
 data Ends (p : Plan) : Type 0 where
-  many : 256 < length (p .rows) → fresh p ≡ tooMany → Ends p
+  many : 256 < length (p .rows) → fresh p ≡ badCall → Ends p
   bad : length (p .rows) ≤ 256 → sound p ≡ false → fresh p ≡ unsound (place13 p) → Ends p
   long : length (p .rows) ≤ 256 → sound p ≡ true → (r : ℕ) → fresh p ≡ tooLong r → Ends p
   fine : length (p .rows) ≤ 256 → sound p ≡ true → (f : List (List ℕ)) → fresh p ≡ written f → Ends p
@@ -139,16 +139,16 @@ differ e n = absurd (n (ap refusalOf e))
 -- ---- refusal 1
 
 -- the writer gives 1 exactly when there are more than 256 rows
-pub too-many : (p : Plan) → (fresh p ≡ tooMany) ↔ (256 < length (p .rows))
+pub too-many : (p : Plan) → (fresh p ≡ badCall) ↔ (256 < length (p .rows))
 too-many p = (λ e. there e (ends p), λ n. back n (ends p))
   where
-    there : fresh p ≡ tooMany → Ends p → 256 < length (p .rows)
+    there : fresh p ≡ badCall → Ends p → 256 < length (p .rows)
     there e (many n g) = n
     there e (bad n s g) = differ (sym g ∙ e) (omega arith)
     there e (long n s r g) = differ (sym g ∙ e) (omega arith)
     there e (fine n s f g) = differ (sym g ∙ e) (omega arith)
 
-    back : 256 < length (p .rows) → Ends p → fresh p ≡ tooMany
+    back : 256 < length (p .rows) → Ends p → fresh p ≡ badCall
     back m (many n g) = g
     back m (bad n s g) = absurd (omega arith)
     back m (long n s r g) = absurd (omega arith)

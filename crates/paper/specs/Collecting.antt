@@ -24,7 +24,8 @@ Collector = List Kept
 abbrev pub cleared : Collector
 cleared = []
 
--- what is answered to a page: taken, "already here", or a refusal (number and place; the page is called page 1)
+-- what is answered to a page: taken, "already here", or a refusal, with number and place. Its page is 1, "called page 1 in its refusals", but for refusal 1,
+-- whose page and place are 0.
 pub data Added : Type 0 where
   added alreadyHere : Added
   refusedWith : ℕ → ℕ → Added

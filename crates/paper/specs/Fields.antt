@@ -81,7 +81,7 @@ aFields =
     ∷ field A (bytes "s") text 1 30 0 false ∷ field A (bytes "z") digits 5 5 0 false ∷ field A (bytes "c") text 1 20 0 false ∷ field A (bytes "p") text 1 20 0 false
     ∷ field A (bytes "e") text 1 40 0 false ∷ field A (bytes "t") stamp 19 19 0 true ∷ []
 
--- O
+-- O. Of w document 01 has "1–3 digits", source 000 in 6.2.2 "max. 5 Zeichen"; lengths are the source's, so w has 1 to 5.
 abbrev pub oFields : List Field
 oFields =
     field O (bytes "ai") text 1 50 0 false ∷ field O (bytes "w") digits 1 5 0 false ∷ field O (bytes "h") digits 1 3 0 false ∷ field O (bytes "c") text 1 5 0 false

@@ -42,9 +42,9 @@ judgeAll k [] = sheets []
 judgeAll k (w ∷ ws) = cons (judge w) k (judgeAll (suc k) ws)
 
 -- refusal 9: "head or z differs from the first page handed in"; the first such page, or 0
-abbrev pub other : Sheet → ℕ → List Sheet → ℕ
-other s k [] = 0
-other s k (t ∷ ts) = if (eqb (t .of) (s .of) && sameHead (t .head) (s .head)) (other s (suc k) ts) k
+abbrev pub page9 : Sheet → ℕ → List Sheet → ℕ
+page9 s k [] = 0
+page9 s k (t ∷ ts) = if (eqb (t .of) (s .of) && sameHead (t .head) (s .head)) (page9 s (suc k) ts) k
 
 -- some page has that number
 abbrev pub has : ℕ → List Sheet → Bool
@@ -52,14 +52,14 @@ has n [] = false
 has n (s ∷ l) = eqb (s .no) n || has n l
 
 -- refusal 10: "a page number already seen"; the first such page, or 0; `was` are the pages before
-abbrev pub again : List Sheet → ℕ → List Sheet → ℕ
-again was k [] = 0
-again was k (s ∷ l) = if (has (s .no) was) k (again (s ∷ was) (suc k) l)
+abbrev pub page10 : List Sheet → ℕ → List Sheet → ℕ
+page10 was k [] = 0
+page10 was k (s ∷ l) = if (has (s .no) was) k (page10 (s ∷ was) (suc k) l)
 
 -- refusal 11: the lowest missing number of the k numbers from n on, or 0
-abbrev pub lowest : List Sheet → ℕ → ℕ → ℕ
-lowest l n zero = 0
-lowest l n (suc k) = if (has n l) (lowest l (suc n) k) n
+abbrev pub number11 : List Sheet → ℕ → ℕ → ℕ
+number11 l n zero = 0
+number11 l n (suc k) = if (has n l) (number11 l (suc n) k) n
 
 -- the rows of the page of that number
 abbrev pub rowsAt : ℕ → List Sheet → List Row
@@ -71,10 +71,10 @@ abbrev pub joined : List Sheet → ℕ → ℕ → List Row
 joined l n zero = []
 joined l n (suc k) = rowsAt n l ++ joined l (suc n) k
 
--- the refusal, unless its page is 0
-abbrev pub first : ℕ → Answer → Answer → Answer
-first zero r a = a
-first (suc k) r a = r
+-- refusal n at the page or number k; where k is 0 there is no such one, and what comes after it decides
+abbrev pub refuseAt : ℕ → ℕ → Answer → Answer
+refuseAt n zero a = a
+refuseAt n (suc k) a = refusal n (suc k) 0
 
 -- refusal 12: "more than 256 rows"
 abbrev pub enough : Plan → Answer
@@ -83,9 +83,7 @@ enough p = if (leb (length (p .rows)) 256) (plan p) (refusal 12 0 0)
 -- "then 9, 10, 11, 12"
 abbrev pub join : List Sheet → Answer
 join [] = refusal 1 0 0
-join (s ∷ l) = first (other s 2 l) (refusal 9 (other s 2 l) 0)
-    (first (again [] 1 (s ∷ l)) (refusal 10 (again [] 1 (s ∷ l)) 0)
-    (first (lowest (s ∷ l) 1 (s .of)) (refusal 11 (lowest (s ∷ l) 1 (s .of)) 0)
+join (s ∷ l) = refuseAt 9 (page9 s 2 l) (refuseAt 10 (page10 [] 1 (s ∷ l)) (refuseAt 11 (number11 (s ∷ l) 1 (s .of))
     (enough (record { head = s .head; rows = joined (s ∷ l) 1 (s .of) }))))
 
 -- the first page's refusal, or the join

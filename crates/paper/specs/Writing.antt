@@ -153,7 +153,8 @@ pages h z a (rs ∷ ps) = page h rs a z ∷ pages h z (suc a) ps
 abbrev pub fits : Head → List Row → Bool
 fits h rs = leb (length (page h rs 1 1)) 1400
 
--- "Each page takes as many rows as fit into 1,400 bytes; a plan without rows is one page." `on` are the rows that stand on the page already.
+-- "Each page takes as many rows as fit into 1,400 bytes; a plan without rows is one page." `on` are the rows that stand on the page already. A row that fits
+-- on no page stands alone on one that is too long; `cuttable` refuses it.
 abbrev pub fill : Head → List Row → List Row → List (List Row)
 fill h on [] = on ∷ []
 fill h on (r ∷ rs) = if (fits h (on ++ r ∷ [])) (fill h (on ++ r ∷ []) rs) (on ∷ fill h (r ∷ []) rs)
@@ -180,9 +181,10 @@ firstBad k (r ∷ rs) = if (soundRow r) (firstBad (suc k) rs) k
 abbrev pub place13 : Plan → ℕ
 place13 p = if (soundHead (p .head)) (firstBad 1 (p .rows)) 0
 
--- refused with 1, with 13 or 14 and the place, or the fresh pages
+-- refused with 1 (a call that is not well made: more than 256 rows, and for the writer's calls more rows than are lent or too little room), with 13 or 14 and
+-- the place, or the fresh pages
 pub data Written : Type 0 where
-  tooMany : Written
+  badCall : Written
   unsound : ℕ → Written
   tooLong : ℕ → Written
   written : List (List ℕ) → Written
@@ -193,4 +195,4 @@ lay h rs = if (cuttable h rs) (written (pages h (length (fill h [] rs)) 1 (fill 
 
 -- a plan to its fresh pages: "Writer: 1, 13, 14."
 unfoldable pub fresh : Plan → Written
-fresh p = if (leb (length (p .rows)) 256) (if (sound p) (lay (p .head) (p .rows)) (unsound (place13 p))) tooMany
+fresh p = if (leb (length (p .rows)) 256) (if (sound p) (lay (p .head) (p .rows)) (unsound (place13 p))) badCall

@@ -15,7 +15,7 @@ use Rattle.paper.specs.Lists.{concat, same}
 use Rattle.paper.specs.Grammar.{Tag}
 use Rattle.paper.specs.Plan.{Slots, Head, Row, Plan, sameHead}
 use Rattle.paper.specs.Judging.{Sheet}
-use Rattle.paper.specs.Reading.{other, has, rowsAt, joined}
+use Rattle.paper.specs.Reading.{page9, has, rowsAt, joined}
 use Rattle.paper.specs.Calls.{inside, pagesAt}
 use Rattle.paper.specs.Layout.{headValues, rowValues, rowsValues, textOf}
 use Rattle.paper.proofs.Small.{no, both, same-eq, same-self}
@@ -84,7 +84,7 @@ likeFirst ws i = eqb (sheetAt ws i .of) (sheetAt ws 0 .of) && sameHead (sheetAt 
 
 -- the first i pages are alike
 abbrev pub AlikeTo : List (List ℕ) → ℕ → Type 0
-AlikeTo ws i = firstOther (sheetsOf ws) ≡ other (sheetAt ws 0) (i + 1) (sheetsOf (drop i ws))
+AlikeTo ws i = firstOther (sheetsOf ws) ≡ page9 (sheetAt ws 0) (i + 1) (sheetsOf (drop i ws))
 
 pub alike-one : (ws : List (List ℕ)) → 1 ≤ length ws → AlikeTo ws 1
 alike-one [] h = absurd (omega arith)

@@ -16,7 +16,7 @@ use lib.Seq.{drop-cons, take-suc, take-take, getD-take, length-take-le}
 use borrow.Author.Tests.{eq-eqb, ne-eqb, eqb-true, le-leb}
 use Rattle.paper.specs.Lists.{if}
 use Rattle.paper.specs.Judging.{Sheet}
-use Rattle.paper.specs.Reading.{has, again, lowest, rowsAt}
+use Rattle.paper.specs.Reading.{has, page10, number11, rowsAt}
 use Rattle.paper.specs.Collecting.{without, maskOf}
 use Rattle.paper.proofs.Small.{no, below-at}
 use Rattle.reader.specs.Pages.{nosOf, placeOf, picked, present, marked, numbersIn, absent, firstOf}
@@ -60,7 +60,7 @@ place-in n [] = refl
 place-in n (s ∷ l) = rw (place-in n l)
 
 -- the page whose number came before, by the numbers alone
-pub again-in : (was : List Sheet) (k : ℕ) (l : List Sheet) → again was k l ≡ againIn (nosOf was) k (nosOf l)
+pub again-in : (was : List Sheet) (k : ℕ) (l : List Sheet) → page10 was k l ≡ againIn (nosOf was) k (nosOf l)
 again-in was k [] = refl
 again-in was k (s ∷ l) = rw (has-among (s .no) was, again-in (s ∷ was) (suc k) l)
 
@@ -189,7 +189,7 @@ pub passed-all : (ns : List ℕ) (i : ℕ) → Passed ns i → length ns ≤ i �
 passed-all ns i P h = P .rest ∙ rw (drop-of-length-le ns h)
 
 -- the page among the numbers is the page among their sheets
-pub again-told : (ns : List ℕ) (r : ℕ) → againIn [] 1 ns ≡ r → (l : List Sheet) → nosOf l ≡ ns → r ≡ again [] 1 l
+pub again-told : (ns : List ℕ) (r : ℕ) → againIn [] 1 ns ≡ r → (l : List Sheet) → nosOf l ≡ ns → r ≡ page10 [] 1 l
 again-told ns r h l e = sym (again-in [] 1 l ∙ (ap (againIn [] 1) e ∙ h))
 
 -- ---- masks
@@ -320,11 +320,11 @@ pub numbers-missing : (l : List Sheet) (z : ℕ) → z ≤ 9 → numbersIn (mask
 numbers-missing l z h = ap (λ (ms : List ℕ). numbersIn (maskOf ms)) (without-picked l 1 z) ∙ (numbers-back (λ i. not (has i l)) z h ∙ sym (without-picked l 1 z))
 
 -- the lowest missing number is the first of them
-pub lowest-first : (l : List Sheet) (n k : ℕ) → firstOf (without l n k) ≡ lowest l n k
+pub lowest-first : (l : List Sheet) (n k : ℕ) → firstOf (without l n k) ≡ number11 l n k
 lowest-first l n zero = refl
 lowest-first l n (suc k) = at (has n l) (lowest-first l (suc n) k)
   where
-    at : (b : Bool) → firstOf (without l (suc n) k) ≡ lowest l (suc n) k → firstOf (if b (without l (suc n) k) (n ∷ without l (suc n) k)) ≡ if b (lowest l (suc n) k) n
+    at : (b : Bool) → firstOf (without l (suc n) k) ≡ number11 l (suc n) k → firstOf (if b (without l (suc n) k) (n ∷ without l (suc n) k)) ≡ if b (number11 l (suc n) k) n
     at true e = e
     at false e = refl
 
@@ -332,7 +332,7 @@ lowest-first l n (suc k) = at (has n l) (lowest-first l (suc n) k)
 pub record Missing (l : List Sheet) (z mask count low : ℕ) : Type 0 where
   pub mask-is : mask ≡ maskOf (without l 1 z)
   pub count-is : count ≡ length (without l 1 z)
-  pub lowest-is : low ≡ lowest l 1 z
+  pub lowest-is : low ≡ number11 l 1 z
 
 -- they are the missing numbers of the sheets, their count and the lowest
 pub missing : (l : List Sheet) (have z mask count low : ℕ) → z ≤ 9 → have ≡ maskOf (present l) → mask ≡ maskOf (absent have z) → count ≡ length (numbersIn mask) → low ≡ firstOf (numbersIn mask) → Missing l z mask count low

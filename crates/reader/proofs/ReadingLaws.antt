@@ -14,7 +14,7 @@ use Rattle.paper.specs.Lists.{if}
 use Rattle.paper.specs.Plan.{sameHead}
 use Rattle.paper.specs.Plan as Said
 use Rattle.paper.specs.Judging.{Sheet, Judged, refused, sheet, judge}
-use Rattle.paper.specs.Reading.{numbers, Judgement, stopped, sheets, cons, judgeAll, has, other, again, lowest, joined, first, enough, join, decide, read}
+use Rattle.paper.specs.Reading.{numbers, Judgement, stopped, sheets, cons, judgeAll, has, page9, page10, number11, joined, refuseAt, enough, join, decide, read}
 use Rattle.paper.specs.Reading as Paper
 use Rattle.paper.specs.Layout.{textOf}
 use Rattle.paper.specs.Collecting.{maskOf}
@@ -140,16 +140,16 @@ refusal-not-zero n k i e = at (eqb n 2) (eqb n 3) (eqb n 4) (eqb n 5) (eqb n 6) 
 
 -- ---- the join, step by step
 
-first-taken : (k : ℕ) (r a : Paper.Answer) → (k ≡ 0 → ⊥) → first k r a ≡ r
-first-taken zero r a h = absurd (h refl)
-first-taken (suc k) r a h = refl
+refused-at : (n k : ℕ) (a : Paper.Answer) → (k ≡ 0 → ⊥) → refuseAt n k a ≡ Paper.refusal n k 0
+refused-at n zero a h = absurd (h refl)
+refused-at n (suc k) a h = refl
 
 -- the first page whose head or count differs, and the first whose number came before, are pages of the call
-other-within : (s : Sheet) (k : ℕ) (l : List Sheet) → other s k l ≤ k + length l
+other-within : (s : Sheet) (k : ℕ) (l : List Sheet) → page9 s k l ≤ k + length l
 other-within s k [] = omega arith
 other-within s k (t ∷ l) = at (eqb (t .of) (s .of) && sameHead (t .head) (s .head)) (other-within s (suc k) l)
   where
-    at : (b : Bool) → other s (suc k) l ≤ suc k + length l → if b (other s (suc k) l) k ≤ k + suc (length l)
+    at : (b : Bool) → page9 s (suc k) l ≤ suc k + length l → if b (page9 s (suc k) l) k ≤ k + suc (length l)
     at true h = omega (arith, h)
     at false h = omega arith
 
@@ -157,19 +157,17 @@ pub other-small : (l : List Sheet) → firstOther l ≤ 2 + length l
 other-small [] = omega arith
 other-small (s ∷ l) = omega (arith, other-within s 2 l)
 
-pub again-within : (was : List Sheet) (k : ℕ) (l : List Sheet) → again was k l ≤ k + length l
+pub again-within : (was : List Sheet) (k : ℕ) (l : List Sheet) → page10 was k l ≤ k + length l
 again-within was k [] = omega arith
 again-within was k (s ∷ l) = at (has (s .no) was) (again-within (s ∷ was) (suc k) l)
   where
-    at : (b : Bool) → again (s ∷ was) (suc k) l ≤ suc k + length l → if b k (again (s ∷ was) (suc k) l) ≤ k + suc (length l)
+    at : (b : Bool) → page10 (s ∷ was) (suc k) l ≤ suc k + length l → if b k (page10 (s ∷ was) (suc k) l) ≤ k + suc (length l)
     at true h = omega arith
     at false h = omega (arith, h)
 
 -- document 01's order: the four tests one after another, then the plan
 join-is : (l : List Sheet) → 1 ≤ length l
-    → join l ≡ first (firstOther l) (Paper.refusal 9 (firstOther l) 0)
-    (first (again [] 1 l) (Paper.refusal 10 (again [] 1 l) 0)
-    (first (lowest l 1 (countSaid l)) (Paper.refusal 11 (lowest l 1 (countSaid l)) 0) (enough (planIn l noPlan))))
+    → join l ≡ refuseAt 9 (firstOther l) (refuseAt 10 (page10 [] 1 l) (refuseAt 11 (number11 l 1 (countSaid l)) (enough (planIn l noPlan))))
 join-is [] h = absurd (omega arith)
 join-is (s ∷ l) h = refl
 
@@ -180,19 +178,19 @@ rows-in (s ∷ l) h = refl
 module _ (l : List Sheet) (some : 1 ≤ length l) where
   -- refusal 9
   pub other-head : (k : ℕ) → k ≡ firstOther l → (k ≡ 0 → ⊥) → join l ≡ Paper.refusal 9 k 0
-  other-head k e h = join-is l some ∙ rw (← e) (first-taken k _ _ h)
+  other-head k e h = join-is l some ∙ rw (← e) (refused-at 9 k _ h)
 
   module _ (alike : 0 ≡ firstOther l) where
     -- refusal 10
-    pub number-twice : (k : ℕ) → k ≡ again [] 1 l → (k ≡ 0 → ⊥) → join l ≡ Paper.refusal 10 k 0
-    number-twice k e h = join-is l some ∙ rw (← alike, ← e) (first-taken k _ _ h)
+    pub number-twice : (k : ℕ) → k ≡ page10 [] 1 l → (k ≡ 0 → ⊥) → join l ≡ Paper.refusal 10 k 0
+    number-twice k e h = join-is l some ∙ rw (← alike, ← e) (refused-at 10 k _ h)
 
-    module _ (once : 0 ≡ again [] 1 l) where
+    module _ (once : 0 ≡ page10 [] 1 l) where
       -- refusal 11
-      pub number-missing : (k : ℕ) → k ≡ lowest l 1 (countSaid l) → (k ≡ 0 → ⊥) → join l ≡ Paper.refusal 11 k 0
-      number-missing k e h = join-is l some ∙ rw (← alike, ← once, ← e) (first-taken k _ _ h)
+      pub number-missing : (k : ℕ) → k ≡ number11 l 1 (countSaid l) → (k ≡ 0 → ⊥) → join l ≡ Paper.refusal 11 k 0
+      number-missing k e h = join-is l some ∙ rw (← alike, ← once, ← e) (refused-at 11 k _ h)
 
-      module _ (none : 0 ≡ lowest l 1 (countSaid l)) where
+      module _ (none : 0 ≡ number11 l 1 (countSaid l)) where
         -- refusal 12
         pub too-many : 256 < length (joined l 1 (countSaid l)) → join l ≡ Paper.refusal 12 0 0
         too-many h = join-is l some ∙ rw (← alike, ← once, ← none, rows-in l some, lt-leb (length (joined l 1 (countSaid l))) 256 h)
@@ -268,7 +266,7 @@ pub record Joins (rows text b ss ns : List ℕ) : Type 0 where
   pub some-sheets : 1 ≤ length (sheetsOf (pagesAt b ss ns))
   pub small : countSaid (sheetsOf (pagesAt b ss ns)) ≤ 9
   pub other-small : firstOther (sheetsOf (pagesAt b ss ns)) ≤ 11
-  pub again-small : again [] 1 (sheetsOf (pagesAt b ss ns)) ≤ 11
+  pub again-small : page10 [] 1 (sheetsOf (pagesAt b ss ns)) ≤ 11
   pub read-is : answered rows text b ss ns ≡ read (pagesAt b ss ns)
   pub join-is : answered rows text b ss ns ≡ join (sheetsOf (pagesAt b ss ns))
 
@@ -305,8 +303,8 @@ rows-counted l some h = rw (rows-in l some) h
 
 -- the lowest missing number, by the masks
 pub low-is : (l : List Sheet) (have z mask low : ℕ) → z ≡ countSaid l → countSaid l ≤ 9 → have ≡ maskOf (present l) → mask ≡ maskOf (absent have z) → low ≡ firstOf (numbersIn mask)
-    → low ≡ lowest l 1 (countSaid l)
-low-is l have z mask low e h p m f = Page.missing l have z mask (length (numbersIn mask)) low (omega arith) p m refl f .lowest-is ∙ ap (lowest l 1) e
+    → low ≡ number11 l 1 (countSaid l)
+low-is l have z mask low e h p m f = Page.missing l have z mask (length (numbersIn mask)) low (omega arith) p m refl f .lowest-is ∙ ap (number11 l 1) e
 
 -- ---- the promise
 

@@ -11,7 +11,7 @@ use Rattle.paper.specs.Plan.{Plan}
 use Rattle.paper.specs.Layout.{headValues}
 use Rattle.paper.specs.Calls.{inside, pagesAt}
 use Rattle.paper.specs.Judging.{Sheet}
-use Rattle.paper.specs.Reading.{other, joined}
+use Rattle.paper.specs.Reading.{page9, joined}
 use Rattle.markup.specs.Walk.{tagsAt}
 use Rattle.plan.specs.declared.Span as Code
 use Rattle.sheet.specs.Content.{contentOf, headFrom}
@@ -54,7 +54,7 @@ sameSpans (x ∷ s) (y ∷ t) = (eqb (x .at) (y .at) && eqb (x .len) (y .len)) &
 -- refusal 9: the first page whose head or count is another than the first page's, or 0
 abbrev pub firstOther : List Sheet → ℕ
 firstOther [] = 0
-firstOther (s ∷ l) = other s 2 l
+firstOther (s ∷ l) = page9 s 2 l
 
 -- the count that the first page says
 abbrev pub countSaid : List Sheet → ℕ

@@ -8,7 +8,7 @@ ghost use lib.Bits.{bitOr};
 ghost use lib.Dec.{eqb};
 ghost use lib.ListN.{length, take};
 ghost use Rattle.paper.specs.Judging.{Sheet};
-ghost use Rattle.paper.specs.Reading.{again};
+ghost use Rattle.paper.specs.Reading.{page10};
 ghost use Rattle.paper.specs.Collecting.{maskOf};
 ghost use Rattle.reader.specs.Pages.{nosOf, placeOf, picked, present, absent, numbersIn, firstOf};
 
@@ -30,7 +30,7 @@ pub fn page_of(nos: [u8; 9], n: usize, k: u8) -> usize
 // The first page, counted from 1, whose number an earlier one has; 0 if there is none.
 pub fn twice(nos: [u8; 9], n: usize) -> usize
     requires { ⌜ n ≤ 9 ⌝ }
-    ensures { λ r. ⌜ ((l : List Sheet) → nosOf l ≡ take n nos → r ≡ again [] 1 l) ⌝ }
+    ensures { λ r. ⌜ ((l : List Sheet) → nosOf l ≡ take n nos → r ≡ page10 [] 1 l) ⌝ }
 {
     let mut i = 0;
     while i < n {

@@ -12,7 +12,7 @@ use Rattle.paper.specs.Lists.{if}
 use Rattle.paper.specs.Plan as Said
 use Rattle.paper.specs.Reading as Paper
 use Rattle.paper.specs.Reading.{read}
-use Rattle.paper.specs.Writing.{Written, tooMany, unsound, tooLong, written, fresh}
+use Rattle.paper.specs.Writing.{Written, badCall, unsound, tooLong, written, fresh}
 use Rattle.paper.specs.Listing.{parted, refusalLines}
 use Rattle.paper.specs.Calls.{readAt}
 use Rattle.paper.proofs.Rooms.{refusal-short}
@@ -32,7 +32,7 @@ FreshPrints out input out′ r = (r ≡ length (freshPrinted out input)) × (out
 
 -- of any plan
 lines-short : (p : Said.Plan) (w : Written) → fresh p ≡ w → length (freshLines (writes w)) ≤ 12608
-lines-short p tooMany e = omega (arith, refusal-short 1 0 0)
+lines-short p badCall e = omega (arith, refusal-short 1 0 0)
 lines-short p (unsound i) e = omega (arith, refusal-short 13 0 i)
 lines-short p (tooLong i) e = omega (arith, refusal-short 14 0 i)
 lines-short p (written f) e = let (n, _, b) = room p f e in separated-short f n b

@@ -10,7 +10,7 @@ use lib.Seq.{drop-cons}
 use borrow.Author.Tests.{lt-leb}
 use Rattle.paper.specs.Reading as Paper
 use Rattle.paper.specs.Layout.{textOf}
-use Rattle.paper.specs.Writing.{Written, tooMany, unsound, tooLong, written, fresh}
+use Rattle.paper.specs.Writing.{Written, badCall, unsound, tooLong, written, fresh}
 use Rattle.paper.specs.Calls.{pageRoom, pagesAt, readAt, freshCall}
 use Rattle.plan.specs.Numbers.{planRows}
 use Rattle.plan.proofs.Spans.{padded-long}
@@ -52,7 +52,7 @@ not-laid m j out w out′ n i P u v = record { result-is = rw (u, v, P .answer-i
 -- so it is of whatever writing answers
 laid-as : (x : Written) (out : List ℕ) (w : Writing) (out′ : List ℕ) (n i : ℕ) → Writes.Promised x out w out′ → n ≡ Writer.numbersOf (w .answer) .number → i ≡ Writer.numbersOf (w .answer) .place
     → Promised (writes x) out (made n i w) out′
-laid-as tooMany out w out′ n i P u v = not-laid 1 0 out w out′ n i P u v
+laid-as badCall out w out′ n i P u v = not-laid 1 0 out w out′ n i P u v
 laid-as (unsound j) out w out′ n i P u v = not-laid 13 j out w out′ n i P u v
 laid-as (tooLong j) out w out′ n i P u v = not-laid 14 j out w out′ n i P u v
 laid-as (written f) out w out′ n i P u v = record { result-is = rw (u, v, P .answer-is, P .pages-are, P .lens-are); room-is = P .room-is }

@@ -7,7 +7,7 @@ use Prim.Native.Nat.{ℕ, _+_}
 use lib.ListN.{length, take}
 use Rattle.paper.specs.Lists.{concat}
 use Rattle.paper.specs.Reading as Paper
-use Rattle.paper.specs.Writing.{Written, tooMany, unsound, tooLong, written, fresh}
+use Rattle.paper.specs.Writing.{Written, badCall, unsound, tooLong, written, fresh}
 use Rattle.paper.specs.Calls.{pagesAt, freshCall}
 use Rattle.markup.specs.Laid.{laid}
 use Rattle.plan.specs.Numbers.{padded}
@@ -22,7 +22,7 @@ pub data Answer : Type 0 where
 
 -- what the writer answers; its refusals have page 0
 abbrev pub writes : Written → Answer
-writes tooMany = refusal 1 0 0
+writes badCall = refusal 1 0 0
 writes (unsound i) = refusal 13 0 i
 writes (tooLong i) = refusal 14 0 i
 writes (written f) = pages f

@@ -3,7 +3,7 @@
 use mathlib.Core.Path.{_≡_, ap, sym, _∙_}
 use mathlib.Core.List.{List}
 use Prim.Native.Nat.{ℕ}
-use Rattle.paper.specs.Writing.{Written, tooMany, unsound, tooLong, written}
+use Rattle.paper.specs.Writing.{Written, badCall, unsound, tooLong, written}
 use Rattle.writer.specs.Promise.{Promised, Refuses}
 use Rattle.writer.specs.declared.answer.Outcome.{Outcome}
 use Rattle.writer.specs.declared.writing.Writing.{Writing}
@@ -30,7 +30,7 @@ refused-once n i out r₁ r₂ out₁ out₂ p q =
 
 -- no second result and no second final room meets the promise
 pub once : (A : Written) (out : List ℕ) (r₁ r₂ : Writing) (out₁ out₂ : List ℕ) → Promised A out r₁ out₁ → Promised A out r₂ out₂ → Same r₁ r₂ out₁ out₂
-once tooMany out r₁ r₂ out₁ out₂ p q = refused-once 1 0 out r₁ r₂ out₁ out₂ p q
+once badCall out r₁ r₂ out₁ out₂ p q = refused-once 1 0 out r₁ r₂ out₁ out₂ p q
 once (unsound i) out r₁ r₂ out₁ out₂ p q = refused-once 13 i out r₁ r₂ out₁ out₂ p q
 once (tooLong i) out r₁ r₂ out₁ out₂ p q = refused-once 14 i out r₁ r₂ out₁ out₂ p q
 once (written f) out r₁ r₂ out₁ out₂ p q =

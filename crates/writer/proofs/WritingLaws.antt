@@ -12,7 +12,7 @@ use Rattle.paper.specs.Reading.{numbers}
 use Rattle.paper.specs.Lists.{if, concat}
 use Rattle.paper.specs.Plan.{Head, Row}
 use Rattle.paper.specs.Plan as Said
-use Rattle.paper.specs.Writing.{Written, tooMany, unsound, tooLong, written, page, pages, fresh}
+use Rattle.paper.specs.Writing.{Written, badCall, unsound, tooLong, written, page, pages, fresh}
 use Rattle.paper.proofs.Small.{both, and-intro}
 use Rattle.paper.proofs.BySize.{base, greedy, laySized, sized}
 use Rattle.paper.proofs.Same.{fresh-sized}
@@ -54,7 +54,7 @@ module _ (out : List ℕ) (p : Plan) (rows text : List ℕ) where
   answer = answered out p rows text
 
   -- the call is not well made
-  pub no-call : callFits n (rowsLent (length rows)) (length out) ≡ false → answer ≡ tooMany
+  pub no-call : callFits n (rowsLent (length rows)) (length out) ≡ false → answer ≡ badCall
   unfolding answered
   no-call e = rw e
 
@@ -148,13 +148,13 @@ module _ (out : List ℕ) (p : Plan) (rows text : List ℕ) where
 
 -- a refusal of that number at that place
 abbrev pub Told : ℕ → ℕ → Written → Type 0
-Told n i tooMany = (n ≡ 1) × (i ≡ 0)
+Told n i badCall = (n ≡ 1) × (i ≡ 0)
 Told n i (unsound r) = (n ≡ 13) × (i ≡ r)
 Told n i (tooLong r) = (n ≡ 14) × (i ≡ r)
 Told n i (written f) = ⊥
 
 pub refuses : (A : Written) (n i : ℕ) (out : List ℕ) (r : Writing) → Told n i A → numbersOf (r .answer) ≡ numbers n 0 i → r .pages ≡ 0 → r .lens ≡ replicate 9 0 → Promised A out r out
-refuses tooMany n i out r s a p l = record { answer-is = a ∙ rw (s .0, s .1); pages-are = p; lens-are = l; room-is = refl }
+refuses badCall n i out r s a p l = record { answer-is = a ∙ rw (s .0, s .1); pages-are = p; lens-are = l; room-is = refl }
 refuses (unsound j) n i out r s a p l = record { answer-is = a ∙ rw (s .0, s .1); pages-are = p; lens-are = l; room-is = refl }
 refuses (tooLong j) n i out r s a p l = record { answer-is = a ∙ rw (s .0, s .1); pages-are = p; lens-are = l; room-is = refl }
 refuses (written f) n i out r s a p l = absurd s

@@ -10,7 +10,7 @@ use lib.ListN.{length, replicate}
 use Rattle.paper.specs.Lists.{if, concat}
 use Rattle.paper.specs.Reading.{numbers}
 use Rattle.paper.specs.Calls.{rowRoom, pageRoom}
-use Rattle.paper.specs.Writing.{Written, tooMany, unsound, tooLong, written, fresh}
+use Rattle.paper.specs.Writing.{Written, badCall, unsound, tooLong, written, fresh}
 use Rattle.markup.specs.Laid.{laid}
 use Rattle.plan.specs.Numbers.{rowsLent, showPlan, padded}
 use Rattle.plan.specs.declared.Plan.{Plan}
@@ -29,7 +29,7 @@ callFits count rows room = leb pageRoom room && (leb count rowRoom && leb count 
 unfoldable pub answered : List ℕ → Plan → List ℕ → List ℕ → Written
 answered out p rows text = if (callFits (p .rows) (rowsLent (length rows)) (length out))
     (if (numbersSound text p rows) (fresh (showPlan text p rows)) (unsound (badPlace text p rows)))
-    tooMany
+    badCall
 
 -- ---- the promise
 
@@ -50,7 +50,7 @@ pub record Writes (f : List (List ℕ)) (out : List ℕ) (r : Writing) (out′ :
 
 -- what is promised where document 01 answers so: of the room as lent, the result, and the room as handed back
 abbrev pub Promised : Written → List ℕ → Writing → List ℕ → Type 0
-Promised tooMany out r out′ = Refuses 1 0 out r out′
+Promised badCall out r out′ = Refuses 1 0 out r out′
 Promised (unsound i) out r out′ = Refuses 13 i out r out′
 Promised (tooLong i) out r out′ = Refuses 14 i out r out′
 Promised (written f) out r out′ = Writes f out r out′

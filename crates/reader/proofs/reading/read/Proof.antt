@@ -11,7 +11,7 @@ use denote.Ref.{now}
 use borrow.Author.Needs.{needs}
 use borrow.Author.Tests.{not-true, not-false}
 use Rattle.paper.specs.Judging.{Sheet}
-use Rattle.paper.specs.Reading.{numbers, again, lowest, joined}
+use Rattle.paper.specs.Reading.{numbers, page10, number11, joined}
 use Rattle.paper.specs.Reading as Paper
 use Rattle.paper.specs.Calls.{inside, pagesAt, roomy}
 use Rattle.plan.specs.Records.{emptyPlan}
@@ -96,21 +96,21 @@ alike-at : (c : tie.Else4) → 0 ≡ firstOther (said (start₄ c))
 alike-at c = sym (c .if4 .left) ∙ c .before .heads .ensures .0
 
 -- no number comes twice
-again-at : (c : tie.After-twice) → c .twice .result ≡ again [] 1 (said (start₄ (c .before .before)))
+again-at : (c : tie.After-twice) → c .twice .result ≡ page10 [] 1 (said (start₄ (c .before .before)))
 again-at c = let A = c .before .before in c .twice .ensures (said (start₄ A)) (sym (A .before .heads .ensures .2))
 
-once-at : (c : tie.Else5) → 0 ≡ again [] 1 (said (start₅ c))
+once-at : (c : tie.Else5) → 0 ≡ page10 [] 1 (said (start₅ c))
 once-at c = sym (c .if5 .left) ∙ again-at (c .before)
 
 -- the lowest missing number
-low-at : (c : tie.After-lowest-missing) → let l = said (start₅ (c .before .before .before)) in c .lowest-missing .result ≡ lowest l 1 (countSaid l)
+low-at : (c : tie.After-lowest-missing) → let l = said (start₅ (c .before .before .before)) in c .lowest-missing .result ≡ number11 l 1 (countSaid l)
 low-at c =
     let N = c .before .before in
     let H = N .before .before .before .before .before in
     let l = said (start₅ (N .before)) in
     low-is l _ _ _ _ (H .heads .ensures .1) (ready-at (H .before) .small) (N .have .ensures l (sym (H .heads .ensures .2))) (c .before .missing-mask .ensures) (c .lowest-missing .ensures)
 
-none-at : (c : tie.Else6) → 0 ≡ lowest (said (start₆ c)) 1 (countSaid (said (start₆ c)))
+none-at : (c : tie.Else6) → 0 ≡ number11 (said (start₆ c)) 1 (countSaid (said (start₆ c)))
 none-at c = sym (c .if6 .left) ∙ low-at (c .before)
 
 -- how many rows there are

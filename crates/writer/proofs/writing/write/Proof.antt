@@ -10,7 +10,7 @@ use borrow.Author.Needs.{needs}
 use borrow.Author.Tests.{not-true, not-false}
 use Rattle.paper.specs.Reading.{numbers}
 use Rattle.paper.specs.Plan.{Head, Row}
-use Rattle.paper.specs.Writing.{Written, tooMany, unsound, tooLong, page, pages}
+use Rattle.paper.specs.Writing.{Written, badCall, unsound, tooLong, page, pages}
 use Rattle.plan.specs.Numbers.{rowsLent, showHead, showRows}
 use Rattle.plan.specs.declared.Plan.{Plan}
 use Rattle.sound.specs.Sound.{headSound, firstBadIn}
@@ -130,7 +130,7 @@ returns : tie.Need-returns
 returns c =
     let T = c .before .before in
     let s = T .before .before .before .before .before in
-    refuse s 1 0 tooMany (no-call (out s) (plan s) (rows s) (text s) (sym (T .call-fits .ensures) ∙ not-true _ (c .before .if1 .taken))) (refl, refl) _ (ap numbersOf (c .refusal .ensures .0)) (c .refusal .ensures .1 .0) (c .refusal .ensures .1 .1)
+    refuse s 1 0 badCall (no-call (out s) (plan s) (rows s) (text s) (sym (T .call-fits .ensures) ∙ not-true _ (c .before .if1 .taken))) (refl, refl) _ (ap numbersOf (c .refusal .ensures .0)) (c .refusal .ensures .1 .0) (c .refusal .ensures .1 .1)
 
 head-sound-requires : tie.Need-head-sound-requires
 head-sound-requires c κs = search needs
