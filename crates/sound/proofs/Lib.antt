@@ -4,3 +4,4 @@ pub mod ElementLaws
 pub mod HeadLaws
 pub mod RecordLaws
 pub mod SoundLaws
+pub mod Causes

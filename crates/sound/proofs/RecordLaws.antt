@@ -272,7 +272,8 @@ sorted true true true true false nc = refl
 sorted true true true true true true = refl
 sorted true true true true true false = refl
 
-so-not : (b : Bool) → (b ≡ true → ⊥) → b ≡ false
+-- a test that cannot hold fails
+pub so-not : (b : Bool) → (b ≡ true → ⊥) → b ≡ false
 so-not true f = absurd (f refl)
 so-not false f = refl
 

@@ -11,7 +11,7 @@ use lib.ListN.{take, drop}
 use Rattle.paper.specs.Lists.{if, every}
 use Rattle.paper.specs.Writing.{soundHead, soundRow, sound}
 use Rattle.paper.proofs.Small.{both, no}
-use Rattle.plan.specs.Numbers.{recordAt, showHead, showRow, showRows, showPlan, headInText, fitRecord}
+use Rattle.plan.specs.Numbers.{recordAt, showHead, showRow, showRows, showPlan, headInText, fitRecord, fitRows}
 use Rattle.plan.specs.declared.Plan.{Plan}
 use Rattle.plan.proofs.Stores.{records-behind}
 use Rattle.sound.specs.Sound.{headSound, recordSound, recordsSound, firstBadIn, numbersSound}
@@ -30,13 +30,25 @@ none-bad t (suc n) k rows = go (recordSound t (take 48 rows)) (none-bad t n (suc
 pub no-bad-row : (t : List ℕ) (n : ℕ) (rows : List ℕ) → (firstBadIn 1 t n rows ≡ 0) ↔ (recordsSound t n rows ≡ true)
 no-bad-row t n rows = none-bad t n 0 rows
 
--- each of sound records is sound
-pub each-sound : (t : List ℕ) (n : ℕ) (rows : List ℕ) (i : ℕ) → i < n → recordsSound t n rows ≡ true → recordSound t (recordAt rows i) ≡ true
-each-sound t zero rows i h e = absurd (not-suc-le-zero h)
-each-sound t (suc n) rows zero h e = both (recordSound t (take 48 rows)) (recordsSound t n (drop 48 rows)) e .0
-each-sound t (suc n) rows (suc i) h e =
-    let (a, b) = both (recordSound t (take 48 rows)) (recordsSound t n (drop 48 rows)) e in
-    ap (λ (l : List ℕ). recordSound t (take 48 l)) (sym (records-behind i rows)) ∙ each-sound t n (drop 48 rows) i (le-of-suc-le-suc h) b
+-- what is tested of the first n records, one after the other, holds of each
+module _ (one : List ℕ → Bool) (all : ℕ → List ℕ → Bool) (first : (n : ℕ) (rows : List ℕ) → all (suc n) rows ≡ true → (one (take 48 rows) ≡ true) × (all n (drop 48 rows) ≡ true)) where
+  each : (n : ℕ) (rows : List ℕ) (i : ℕ) → i < n → all n rows ≡ true → one (recordAt rows i) ≡ true
+  each zero rows i h e = absurd (not-suc-le-zero h)
+  each (suc n) rows zero h e = first n rows e .0
+  each (suc n) rows (suc i) h e = ap (λ (l : List ℕ). one (take 48 l)) (sym (records-behind i rows)) ∙ each n (drop 48 rows) i (le-of-suc-le-suc h) (first n rows e .1)
+
+module _ (t : List ℕ) where
+  -- each of sound records is sound
+  pub each-sound : (n : ℕ) (rows : List ℕ) (i : ℕ) → i < n → recordsSound t n rows ≡ true → recordSound t (recordAt rows i) ≡ true
+  each-sound = each (recordSound t) (recordsSound t) (λ n rows e. both (recordSound t (take 48 rows)) (recordsSound t n (drop 48 rows)) e)
+
+  -- each of fit records is fit
+  pub each-fit : (n : ℕ) (rows : List ℕ) (i : ℕ) → i < n → fitRows t n rows ≡ true → fitRecord t (recordAt rows i) ≡ true
+  each-fit = each (fitRecord t) (fitRows t) (λ n rows e. both (fitRecord t (take 48 rows)) (fitRows t n (drop 48 rows)) e)
+
+  -- each record that shows one of sound rows shows a sound row
+  pub each-shown : (n : ℕ) (rows : List ℕ) (i : ℕ) → i < n → every soundRow (showRows t n rows) ≡ true → soundRow (showRow t (recordAt rows i)) ≡ true
+  each-shown = each (λ l. soundRow (showRow t l)) (λ n rows. every soundRow (showRows t n rows)) (λ n rows e. both (soundRow (showRow t (take 48 rows))) (every soundRow (showRows t n (drop 48 rows))) e)
 
 -- a sound record shows a sound row
 pub row-shown : (t l : List ℕ) → recordSound t l ≡ true → soundRow (showRow t l) ≡ true
