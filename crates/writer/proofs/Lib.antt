@@ -7,6 +7,7 @@ pub mod PageLaws
 pub mod Stretches
 pub mod Unique
 pub mod WritingLaws
+pub mod Answered
 pub mod WrittenBack
 pub mod Bodied
 pub mod Paged

@@ -18,7 +18,8 @@ pub record Same (r₁ r₂ : Writing) (out₁ out₂ : List ℕ) : Type 0 where
 abbrev made : Outcome → ℕ → List ℕ → Writing
 made a n l = record { answer = a; pages = n; lens = l }
 
-same-writing : (r₁ r₂ : Writing) → r₁ .answer ≡ r₂ .answer → r₁ .pages ≡ r₂ .pages → r₁ .lens ≡ r₂ .lens → r₁ ≡ r₂
+-- results with the same answer, number of pages and lengths are the same
+pub same-writing : (r₁ r₂ : Writing) → r₁ .answer ≡ r₂ .answer → r₁ .pages ≡ r₂ .pages → r₁ .lens ≡ r₂ .lens → r₁ ≡ r₂
 same-writing r₁ r₂ a n l = ap (λ (x : Outcome). made x (r₁ .pages) (r₁ .lens)) a ∙ ap (λ (x : ℕ). made (r₂ .answer) x (r₁ .lens)) n ∙ ap (made (r₂ .answer) (r₂ .pages)) l
 
 refused-once : (n i : ℕ) (out : List ℕ) (r₁ r₂ : Writing) (out₁ out₂ : List ℕ) → Refuses n i out r₁ out₁ → Refuses n i out r₂ out₂ → Same r₁ r₂ out₁ out₂

@@ -32,15 +32,16 @@ use Rattle.writer.specs.declared.writing.Writing.{Writing}
 use Rattle.writer.proofs.CutLaws.{offsets, CutAs, cut-as}
 use Rattle.writer.proofs.PageLaws.{rising, parted-are}
 
--- a call that is well made
-pub record Fitting (out : List ℕ) (p : Plan) (rows : List ℕ) : Type 0 where
+-- a call that is well made: room for 12,600 bytes, at most 256 rows, and all of them lent, 48 numbers to a row
+pub record WellMade (out : List ℕ) (p : Plan) (rows : List ℕ) : Type 0 where
   pub room : 12600 ≤ length out
   pub few : p .rows ≤ 256
   pub lent : p .rows * 48 ≤ length rows
 
-pub fitting : (out : List ℕ) (p : Plan) (rows : List ℕ) → callFits (p .rows) (rowsLent (length rows)) (length out) ≡ true → Fitting out p rows
+-- it passes the code's test
+pub well-made : (out : List ℕ) (p : Plan) (rows : List ℕ) → callFits (p .rows) (rowsLent (length rows)) (length out) ≡ true → WellMade out p rows
 unfolding callFits
-fitting out p rows e =
+well-made out p rows e =
     let (a, b) = both (leb 12600 (length out)) (leb (p .rows) 256 && leb (p .rows) (length rows / 48)) e in
     let (c, d) = both (leb (p .rows) 256) (leb (p .rows) (length rows / 48)) b in
     let g : p .rows ≤ length rows / 48 = leb-true (p .rows) (length rows / 48) d in
@@ -92,7 +93,7 @@ module _ (out : List ℕ) (p : Plan) (rows text : List ℕ) where
 
         by-size : answer ≡ if (leb (base h) 1400) (laySized shown (greedy shown)) (tooLong 0)
         unfolding sized
-        by-size = is-fresh ∙ fresh-sized shown ∙ rw (le-leb (length (showRows text n rows)) 256 (omega (arith, rows-shown text n rows, fitting out p rows fits .few)), plan-sound text p rows (and-intro (headSound text p) (recordsSound text n rows) head records))
+        by-size = is-fresh ∙ fresh-sized shown ∙ rw (le-leb (length (showRows text n rows)) 256 (omega (arith, rows-shown text n rows, well-made out p rows fits .few)), plan-sound text p rows (and-intro (headSound text p) (recordsSound text n rows) head records))
 
         -- the head alone is too long
         pub long-head : 1400 < length (page h [] 1 1) → answer ≡ tooLong 0

@@ -19,7 +19,7 @@ use Rattle.writer.specs.Cutting.{measureOf, Cutting, cutOf, Tells}
 use Rattle.writer.specs.Promise.{Promised, answered, callFits}
 use Rattle.writer.specs.declared.writing.Writing.{Writing}
 use Rattle.writer.proofs.Stretches.{bad-row}
-use Rattle.writer.proofs.WritingLaws.{fitting, no-call, bad-head, bad-rows, records, long-head, Paged, decided, no-cut, a-cut, Told, refuses, writes, place-small}
+use Rattle.writer.proofs.WritingLaws.{well-made, no-call, bad-head, bad-rows, records, long-head, Paged, decided, no-cut, a-cut, Told, refuses, writes, place-small}
 use Rattle.writer.proofs.writing.write.Statement.{statement}
 use Rattle.writer.proofs.writing.write.Tie as tie
 
@@ -145,13 +145,13 @@ returns-2 c =
     refuse s 13 0 (unsound 0) (bad-head (out s) (plan s) (rows s) (text s) (fits-at (T .before)) (sym (T .head-sound .ensures) ∙ not-true _ (c .before .if2 .taken))) (refl, refl) _ (ap numbersOf (c .refusal2 .ensures .0)) (c .refusal2 .ensures .1 .0) (c .refusal2 .ensures .1 .1)
 
 first-bad-requires : tie.Need-first-bad-requires
-first-bad-requires c κs = let s = start₂ c in fitting (out s) (plan s) (rows s) (fits-at (c .before .before)) .lent
+first-bad-requires c κs = let s = start₂ c in well-made (out s) (plan s) (rows s) (fits-at (c .before .before)) .lent
 
 cast-t21 : tie.Need-cast-t21
 cast-t21 c =
     let B = c .before in
     let s = start₂ (B .before) in
-    omega (arith, B .first-bad .ensures, bad-row 1 (text s) (plan s .rows) (rows s), fitting (out s) (plan s) (rows s) (fits-at (B .before .before .before)) .few)
+    omega (arith, B .first-bad .ensures, bad-row 1 (text s) (plan s .rows) (rows s), well-made (out s) (plan s) (rows s) (fits-at (B .before .before .before)) .few)
 
 refusal-requires-3 : tie.Need-refusal-requires-3
 refusal-requires-3 c κs = search needs
@@ -188,7 +188,7 @@ row-measures-requires c κs =
     let s = start₄ (c .before) in
     let N = c .before .before .before .before .before in
     let H = N .before .before in
-    let F = fitting (out s) (plan s) (rows s) (fits-at (H .before .before)) in
+    let F = well-made (out s) (plan s) (rows s) (fits-at (H .before .before)) in
     (F .few, F .lent, records (out s) (plan s) (rows s) (text s) (fits-at (H .before .before)) (head-at H) (none-at N), search needs)
 
 cut-rows-requires : tie.Need-cut-rows-requires
@@ -196,7 +196,7 @@ cut-rows-requires c κs =
     let E = c .before .before .before in
     let s = start₄ E in
     let H = E .before .before .before .before .before .before in
-    (E .if4 .left, fitting (out s) (plan s) (rows s) (fits-at (H .before .before)) .few)
+    (E .if4 .left, well-made (out s) (plan s) (rows s) (fits-at (H .before .before)) .few)
 
 cast-t28 : tie.Need-cast-t28
 cast-t28 c = let C = c .before in omega (arith, place-small (C .cut-rows .result) (cutting (start₅ C)) (tells-at C))
@@ -216,7 +216,7 @@ lay-pages-requires c κs =
     let s = start₅ C in
     let N = C .before .before .before .before .before .before .before .before in
     let H = N .before .before in
-    let F = fitting (out s) (plan s) (rows s) (fits-at (H .before .before)) in
+    let F = well-made (out s) (plan s) (rows s) (fits-at (H .before .before)) in
     let (k, (w, p)) = cut-at (c .before .before) in
     (head-at H, F .lent, records (out s) (plan s) (rows s) (text s) (fits-at (H .before .before)) (head-at H) (none-at N), w, p .rise, rw k at (p .fit), F .room)
 
