@@ -4,14 +4,12 @@
 use mathlib.Core.Path.{_≡_, refl, ap, sym, _∙_, subst}
 use mathlib.Core.Logic.{_↔_, _⊎_, inl, inr}
 use mathlib.Core.Bool.{Bool, true}
-use mathlib.Core.List.{List, _∷_, _++_}
+use mathlib.Core.List.{List, _∷_}
 use Prim.Native.Nat.{ℕ, _+_, _≤_, _/_}
 use native.Mathlib.Omega.{arith}
 use lib.Dec.{leb}
 use lib.ListN.{length, drop}
-use lib.Seq.{drop-at}
 use borrow.Author.Tests.{le-leb}
-use Rattle.paper.specs.Lists.{concat}
 use Rattle.paper.specs.Plan as Said
 use Rattle.paper.specs.Reading as Paper
 use Rattle.paper.specs.Reading.{numbers}
@@ -27,7 +25,6 @@ use Rattle.paper.proofs.CallLaws.{reads-pages}
 use Rattle.paper.proofs.ReadSound.{read-sound}
 use Rattle.paper.proofs.Writer as Writer
 use Rattle.paper.proofs.Writer.{FirstUncut}
-use Rattle.markup.specs.Laid.{laid}
 use Rattle.plan.specs.Numbers.{rowsLent, showPlan, planRows}
 use Rattle.plan.proofs.Shown.{sound-back}
 use Rattle.reader.specs.Answers.{numbersOf}
@@ -38,7 +35,7 @@ use Rattle.reader.proofs.Unique as Read
 use Rattle.reader.proofs.Unique.{Same}
 use Rattle.tollgilt.specs.Fresh.{Answer, pages, writes, afresh, answered, given, Promised, Handed, startsTold, lensTold, pagesIn, Begins}
 use Rattle.tollgilt.specs.declared.fresh.Fresh.{Fresh}
-use Rattle.tollgilt.proofs.FreshLaws.{Gives, Ends, stopped, long, fine, ends, endsWith, gives-end, plan-read, roomy-call, plan-roomy, Freshly, freshly, read-back, pages-in}
+use Rattle.tollgilt.proofs.FreshLaws.{Gives, Ends, stopped, long, fine, ends, endsWith, gives-end, plan-read, roomy-call, plan-roomy, Holds, read-back, cut-in, fewest-in, same-in, told-alike, room-alike, room-stays, Freshly, freshly}
 use Rattle.tollgilt.proofs.Unique.{fresh-once}
 
 -- what a call of `read` gives: the rooms as lent, the pages handed in, the result, and the rooms as handed back
@@ -62,12 +59,13 @@ read-call rows text b ss ns (h, g) =
     let lent : 256 ≤ length rows / 48 = omega arith in
     ap (λ (x : Bool). readAt x b ss ns) (and-intro (leb rowRoom (rowsLent (length rows))) (leb textRoom (length text)) (le-leb rowRoom (rowsLent (length rows)) lent) (le-leb textRoom (length text) g))
 
-took-as : (rows text b ss ns : List ℕ) (q : Reading) (rows′ text′ : List ℕ) → Enough rows text → Took rows text b ss ns q rows′ text′
+-- so they decide on what `read` gives
+pub took-as : (rows text b ss ns : List ℕ) (q : Reading) (rows′ text′ : List ℕ) → Enough rows text → Took rows text b ss ns q rows′ text′
     → Reads.Promised (readAt true b ss ns) rows text q rows′ text′
 took-as rows text b ss ns q rows′ text′ h R = subst (λ (a : Paper.Answer). Reads.Promised a rows text q rows′ text′) (read-call rows text b ss ns h) R
 
 -- what was read shows the plan
-took-shows : (rows text : List ℕ) (p : Said.Plan) (q : Reading) (rows′ text′ : List ℕ) → sound p ≡ true → Reads.Promised (Paper.plan p) rows text q rows′ text′ → showPlan text′ (q .plan) rows′ ≡ p
+pub took-shows : (rows text : List ℕ) (p : Said.Plan) (q : Reading) (rows′ text′ : List ℕ) → sound p ≡ true → Reads.Promised (Paper.plan p) rows text q rows′ text′ → showPlan text′ (q .plan) rows′ ≡ p
 took-shows rows text p q rows′ text′ s R =
     rw (R .plan-is, R .rows-are, R .text-is) (sound-back p (drop (0 + length (textOf p)) text) (drop (0 + length (planRows p)) rows) s)
 
@@ -170,27 +168,17 @@ module _ (out b ss ns : List ℕ) (r : Fresh) (out′ : List ℕ) (F : Gives out
         back q = let g = given-is q in (ap (λ (t : Fresh). t .number) g, ap (λ (t : Fresh). t .page) g, ap (λ (t : Fresh). t .place) g)
 
     module _ (z : r .number ≡ 0) where
-      gave : Freshly out b ss ns r out′
-      gave = freshly out b ss ns r out′ F z
-
-      plan-is : gave .plan ≡ p
-      plan-is = plan-once (gave .is-plan) e
-
-      written-is : fresh p ≡ written (pagesIn r out′)
-      written-is = subst (λ (s : Said.Plan). fresh s ≡ written (gave .sheets)) plan-is (gave .is-fresh) ∙ ap written (sym (pages-in gave))
-
-      count-is : length (pagesIn r out′) ≡ r .pages
-      count-is = ap length (pages-in gave) ∙ sym (ap (λ (t : Fresh). t .pages) (gave .result-is))
+      -- the room holds the plan's fresh pages
+      pub holds : Holds p out r out′
+      holds = let G = freshly out b ss ns r out′ F z in subst (λ (s : Said.Plan). Holds s out r out′) (plan-once (G .is-plan) e) (G .holds)
 
       -- the pages are a cut of the plan's rows, spelled
       pub a-cut : (c : Cut (p .head) (p .rows) (r .pages)) × (pagesIn r out′ ≡ Spelled.pages (p .head) (r .pages) 1 (c .parts))
-      a-cut =
-          subst (λ (n : ℕ). (c : Cut (p .head) (p .rows) n) × (pagesIn r out′ ≡ Spelled.pages (p .head) n 1 (c .parts))) count-is
-          (Writer.is-cut p (pagesIn r out′) written-is)
+      a-cut = cut-in holds
 
       -- No other cut uses fewer sheets.
       pub no-fewer : (k : ℕ) → Cut (p .head) (p .rows) k → r .pages ≤ k
-      no-fewer k c = subst (λ (n : ℕ). n ≤ k) count-is (Writer.fewest p (pagesIn r out′) written-is k c)
+      no-fewer = fewest-in holds
 
   -- ---- fresh pages, read and written again
 
@@ -203,44 +191,29 @@ module _ (out b ss ns : List ℕ) (r : Fresh) (out′ : List ℕ) (F : Gives out
         let G = freshly out b ss ns r out′ F z in
         let first = sym (roomy-call out b ss ns (plan-roomy out b ss ns (G .plan) (G .is-plan))) ∙ G .is-plan in
         let T = subst (λ (a : Paper.Answer). Reads.Promised a rows text q rows₁ text₁) first (took-as rows text b ss ns q rows₁ text₁ h R) in
-        let T₂ = subst (λ (a : Paper.Answer). Reads.Promised a rows text q₂ rows₂ text₂) (read-back G buffer g) (took-as rows text buffer (startsTold r) (lensTold r) q₂ rows₂ text₂ h R₂) in
+        let T₂ = subst (λ (a : Paper.Answer). Reads.Promised a rows text q₂ rows₂ text₂) (read-back (G .holds) buffer g) (took-as rows text buffer (startsTold r) (lensTold r) q₂ rows₂ text₂ h R₂) in
         (T₂ .answer-is, Read.once (Paper.plan (G .plan)) rows text q₂ q rows₂ rows₁ text₂ text₁ T₂ T)
 
     module _ (out₂ : List ℕ) (r₂ : Fresh) (out₂′ : List ℕ) (h : 12600 ≤ length out₂) (F₂ : Gives out₂ buffer (startsTold r) (lensTold r) r₂ out₂′) where
-      again : Promised (pages (freshly out b ss ns r out′ F z .sheets)) out₂ r₂ out₂′
+      again : Holds (freshly out b ss ns r out′ F z .plan) out₂ r₂ out₂′
       again =
           let G = freshly out b ss ns r out′ F z in
+          let A : Promised (pages (G .holds .sheets)) out₂ r₂ out₂′ =
           subst (λ (a : Answer). Promised a out₂ r₂ out₂′)
-          (ap afresh (roomy-call out₂ buffer (startsTold r) (lensTold r) h ∙ read-back G buffer g) ∙ ap writes (G .is-fresh)) F₂
+          (ap afresh (roomy-call out₂ buffer (startsTold r) (lensTold r) h ∙ read-back (G .holds) buffer g) ∙ ap writes (G .holds .is-fresh)) F₂ in
+          record { sheets = G .holds .sheets; is-fresh = G .holds .is-fresh; result-is = A .result-is; room-is = A .room-is }
 
       -- Writing that again changes no byte: fresh pages written afresh are the same pages, in number, lengths and bytes.
       pub again-same : (r₂ ≡ r) × (pagesIn r₂ out₂′ ≡ pagesIn r out′)
-      again-same =
-          let G = freshly out b ss ns r out′ F z in
-          let same : r₂ ≡ r = again .result-is ∙ sym (G .result-is) in
-          let G₂ : Freshly out₂ buffer (startsTold r) (lensTold r) r₂ out₂′ = record {
-            plan = G .plan;
-            sheets = G .sheets;
-            is-plan = roomy-call out₂ buffer (startsTold r) (lensTold r) h ∙ read-back G buffer g;
-            is-fresh = G .is-fresh;
-            result-is = again .result-is;
-            room-is = again .room-is;
-          } in
-          (same, pages-in G₂ ∙ sym (pages-in G))
+      again-same = told-alike again (freshly out b ss ns r out′ F z .holds)
 
       -- into the room as first lent they leave the same room
       pub again-room : out₂ ≡ out → out₂′ ≡ out′
-      again-room e = let G = freshly out b ss ns r out′ F z in again .room-is ∙ (ap (λ (l : List ℕ). laid l 0 (concat (G .sheets))) e ∙ sym (G .room-is))
+      again-room = room-alike again (freshly out b ss ns r out′ F z .holds)
 
       -- and a room that holds them already stays as it is
       pub again-over : out₂ ≡ out′ → out₂′ ≡ out′
-      again-over e =
-          let G = freshly out b ss ns r out′ F z in
-          let w : List ℕ = concat (G .sheets) in
-          let rest : List ℕ = drop (0 + length w) out in
-          again .room-is
-          ∙ (ap (λ (l : List ℕ). laid l 0 w) (e ∙ G .room-is)
-          ∙ (ap (λ (l : List ℕ). w ++ l) (drop-at w rest (0 + length w) (omega arith)) ∙ sym (G .room-is)))
+      again-over = room-stays (freshly out b ss ns r out′ F z .holds) again
 
 -- ---- two calls
 
@@ -249,7 +222,7 @@ module _ (out b ss ns : List ℕ) (r : Fresh) (out′ : List ℕ) (F : Gives out
   -- Two accepted and writable sets have equal fresh pages exactly when their plans are the same.
   pub same-exactly : (p p₂ : Said.Plan) → freshCall (length out) b ss ns ≡ Paper.plan p → freshCall (length out₂) b₂ ss₂ ns₂ ≡ Paper.plan p₂ → (pagesIn r out′ ≡ pagesIn r₂ out₂′) ↔ (p ≡ p₂)
   same-exactly p p₂ e e₂ =
-      Writer.same-pages p p₂ (pagesIn r out′) (pagesIn r₂ out₂′) (written-is out b ss ns r out′ F p e z) (written-is out₂ b₂ ss₂ ns₂ r₂ out₂′ F₂ p₂ e₂ z₂)
+      same-in (holds out b ss ns r out′ F p e z) (holds out₂ b₂ ss₂ ns₂ r₂ out₂′ F₂ p₂ e₂ z₂)
 
   -- The same in what `read` lays out: they have equal fresh pages exactly when, in the same rooms, their `Plan`, their rows and their texts are the same.
   pub same-read : (rows text : List ℕ) (q q₂ : Reading) (rows₁ rows₂ text₁ text₂ : List ℕ) → Enough rows text → Took rows text b ss ns q rows₁ text₁

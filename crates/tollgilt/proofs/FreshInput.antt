@@ -16,12 +16,12 @@ use Rattle.paper.specs.Writing.{Written, badCall, unsound, tooLong, written, fr
 use Rattle.paper.specs.Listing.{parted, refusalLines}
 use Rattle.paper.specs.Calls.{readAt}
 use Rattle.paper.proofs.Rooms.{refusal-short}
-use Rattle.paper.proofs.Writer.{is-cut, room}
+use Rattle.paper.proofs.Writer.{room}
 use Rattle.markup.specs.Laid.{laid}
 use Rattle.tollgilt.specs.Fresh.{Answer, refusal, pages, writes, afresh, answered, given, bytesTold, pagesIn}
 use Rattle.tollgilt.specs.Printed.{separated, freshLines, planfresh, separatedRoom, freshPrinted}
 use Rattle.tollgilt.specs.declared.fresh.Fresh.{Fresh}
-use Rattle.tollgilt.proofs.FreshLaws.{Gives, roomy-call, Freshly, freshly, bytes-told, pages-in}
+use Rattle.tollgilt.proofs.FreshLaws.{Gives, roomy-call, bytes-told, written-in, cut-in, Freshly, freshly}
 use Rattle.tollgilt.proofs.JoinLaws.{separated-short}
 
 -- a length and a room in which just so much is printed
@@ -77,15 +77,16 @@ module _ (out input room₀ ss ns : List ℕ) (r : Fresh) (room₁ : List ℕ) (
     there = freshly room₀ input ss ns r room₁ F z
 
     lines : freshPrinted out input ≡ separated (pagesIn r room₁)
-    lines = printed-is ∙ (ap (λ (a : Paper.Answer). freshLines (afresh a)) (there .is-plan) ∙ (ap (λ (w : Written). freshLines (writes w)) (there .is-fresh) ∙ ap separated (sym (pages-in there))))
+    lines = printed-is ∙ (ap (λ (a : Paper.Answer). freshLines (afresh a)) (there .is-plan) ∙ ap (λ (w : Written). freshLines (writes w)) (written-in (there .holds)))
 
     -- the pages can be laid anew
     pub joinable : length room₁ ≡ 12600 → (1 ≤ r .pages) × (r .pages ≤ 9) × (bytesTold r ≤ length room₁) × (bytesTold r + r .pages ≤ length out + 1)
     joinable long =
-        let count : r .pages ≡ length (there .sheets) = ap (λ (t : Fresh). t .pages) (there .result-is) in
-        let (nine, _, most) = room (there .plan) (there .sheets) (there .is-fresh) in
-        let some = is-cut (there .plan) (there .sheets) (there .is-fresh) .0 .one in
-        let all = bytes-told there in
+        let H = there .holds in
+        let count : r .pages ≡ length (H .sheets) = ap (λ (t : Fresh). t .pages) (H .result-is) in
+        let (nine, _, most) = room (there .plan) (H .sheets) (H .is-fresh) in
+        let some = cut-in H .0 .one in
+        let all = bytes-told H in
         (omega arith, omega arith, omega arith, omega arith)
 
     -- pages are printed

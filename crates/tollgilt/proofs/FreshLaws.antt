@@ -1,7 +1,7 @@
 -- FreshLaws: how a call that writes its pages afresh ends, and what is known of the pages that it gives.
 -- Assumes nothing.
 use mathlib.Core.Path.{_≡_, refl, ap, sym, _∙_, subst}
-use mathlib.Core.Logic.{_⊎_, inl, inr}
+use mathlib.Core.Logic.{_↔_, _⊎_, inl, inr}
 use mathlib.Core.Bool.{Bool, true, false}
 use mathlib.Core.List.{List, [], _∷_, _++_, append-assoc, map}
 use Prim.Native.Nat.{ℕ, zero, suc, _+_, _≤_}
@@ -14,12 +14,14 @@ use Rattle.paper.specs.Lists.{concat}
 use Rattle.paper.specs.Plan as Said
 use Rattle.paper.specs.Reading as Paper
 use Rattle.paper.specs.Reading.{read}
+use Rattle.paper.specs.Writing as Spelled
 use Rattle.paper.specs.Writing.{tooLong, written, fresh}
+use Rattle.paper.specs.Cuts.{Cut}
 use Rattle.paper.specs.Calls.{pageRoom, inside, pagesAt, readAt, freshCall}
 use Rattle.paper.proofs.Small.{no, and-intro}
 use Rattle.paper.proofs.AnyOrder.{isPlan}
 use Rattle.paper.proofs.CallLaws.{startsOf, lengthsOf, reads-pages}
-use Rattle.paper.proofs.Writer.{round-trip, writable, room}
+use Rattle.paper.proofs.Writer.{round-trip, writable, room, is-cut, fewest, same-pages}
 use Rattle.markup.specs.Laid.{laid}
 use Rattle.plan.specs.Numbers.{padded}
 use Rattle.tollgilt.specs.Fresh.{Answer, refusal, pages, writes, afresh, answered, pagesOf, Promised, behind, total, lensTold, startsTold, bytesTold, pagesIn, Begins}
@@ -116,29 +118,18 @@ bytes-all : (f : List (List ℕ)) → total (lengthsOf f) ≡ length (concat f)
 bytes-all [] = refl
 bytes-all (w ∷ f) = omega (arith, bytes-all f, length-append w (concat f))
 
--- ---- a call that gives pages
+-- ---- fresh pages in a room
 
--- its plan and its pages, and what it gives of them
-pub record Freshly (out b ss ns : List ℕ) (r : Fresh) (out′ : List ℕ) : Type 0 where
-  pub plan : Said.Plan
+-- the room, as handed back, holds the fresh pages of the plan, and these numbers tell them
+pub record Holds (p : Said.Plan) (out : List ℕ) (r : Fresh) (out′ : List ℕ) : Type 0 where
   pub sheets : List (List ℕ)
-  pub is-plan : freshCall (length out) b ss ns ≡ Paper.plan plan
-  pub is-fresh : fresh plan ≡ written sheets
+  pub is-fresh : fresh p ≡ written sheets
   pub result-is : r ≡ pagesOf sheets
   pub room-is : out′ ≡ laid out 0 (concat sheets)
 
--- it is a call whose number is 0
-pub freshly : (out b ss ns : List ℕ) (r : Fresh) (out′ : List ℕ) → Gives out b ss ns r out′ → r .number ≡ 0 → Freshly out b ss ns r out′
-freshly out b ss ns r out′ F z = at (ends out b ss ns) (gives-end out b ss ns r out′ F (ends out b ss ns))
-  where
-    at : (x : Ends (freshCall (length out) b ss ns)) → Promised (endsWith x) out r out′ → Freshly out b ss ns r out′
-    at (stopped n k i g h e) P = let q : r .number ≡ n = ap (λ (t : Fresh). t .number) (P .result-is) in absurd (omega arith)
-    at (long p i e w) P = let q : r .number ≡ 14 = ap (λ (t : Fresh). t .number) (P .result-is) in absurd (omega arith)
-    at (fine p f e w) P = record { plan = p; sheets = f; is-plan = e; is-fresh = w; result-is = P .result-is; room-is = P .room-is }
-
-module _ {out b ss ns : List ℕ} {r : Fresh} {out′ : List ℕ} (G : Freshly out b ss ns r out′) where
+module _ {p : Said.Plan} {out : List ℕ} {r : Fresh} {out′ : List ℕ} (G : Holds p out r out′) where
   lens-told : lensTold r ≡ lengthsOf (G .sheets)
-  lens-told = ap lensTold (G .result-is) ∙ lens-front 9 (G .sheets) (room (G .plan) (G .sheets) (G .is-fresh) .0)
+  lens-told = ap lensTold (G .result-is) ∙ lens-front 9 (G .sheets) (room p (G .sheets) (G .is-fresh) .0)
 
   starts-told : startsTold r ≡ startsOf 0 (G .sheets)
   starts-told = ap (behind 0) lens-told ∙ starts-behind 0 (G .sheets)
@@ -162,12 +153,74 @@ module _ {out b ss ns : List ℕ} {r : Fresh} {out′ : List ℕ} (G : Freshly o
     pages-there = ap (λ (s : List ℕ). pagesAt buffer s (lensTold r)) starts-told ∙ (ap (pagesAt buffer (startsOf 0 (G .sheets))) lens-told ∙ lie .1)
 
     -- they are read to the plan that they were written for
-    pub read-back : readAt true buffer (startsTold r) (lensTold r) ≡ Paper.plan (G .plan)
+    pub read-back : readAt true buffer (startsTold r) (lensTold r) ≡ Paper.plan p
     read-back =
         ap (λ (s : List ℕ). readAt true buffer s (lensTold r)) starts-told
         ∙ (ap (readAt true buffer (startsOf 0 (G .sheets))) lens-told
-        ∙ (reads-pages buffer (startsOf 0 (G .sheets)) (lengthsOf (G .sheets)) (lie .0) ∙ (ap read (lie .1) ∙ round-trip (G .plan) (G .sheets) (G .is-fresh))))
+        ∙ (reads-pages buffer (startsOf 0 (G .sheets)) (lengthsOf (G .sheets)) (lie .0) ∙ (ap read (lie .1) ∙ round-trip p (G .sheets) (G .is-fresh))))
 
   -- the pages in the room
   pub pages-in : pagesIn r out′ ≡ G .sheets
   pages-in = pages-there out′ refl
+
+  -- they are the plan's fresh pages
+  pub written-in : fresh p ≡ written (pagesIn r out′)
+  written-in = G .is-fresh ∙ ap written (sym pages-in)
+
+  count-in : length (pagesIn r out′) ≡ r .pages
+  count-in = ap length pages-in ∙ sym (ap (λ (t : Fresh). t .pages) (G .result-is))
+
+  -- they are a cut of the plan's rows, spelled
+  pub cut-in : (c : Cut (p .head) (p .rows) (r .pages)) × (pagesIn r out′ ≡ Spelled.pages (p .head) (r .pages) 1 (c .parts))
+  cut-in =
+      subst (λ (n : ℕ). (c : Cut (p .head) (p .rows) n) × (pagesIn r out′ ≡ Spelled.pages (p .head) n 1 (c .parts))) count-in
+      (is-cut p (pagesIn r out′) written-in)
+
+  -- no cut has fewer
+  pub fewest-in : (k : ℕ) → Cut (p .head) (p .rows) k → r .pages ≤ k
+  fewest-in k c = subst (λ (n : ℕ). n ≤ k) count-in (fewest p (pagesIn r out′) written-in k c)
+
+-- ---- two rooms with fresh pages
+
+-- they hold the same pages exactly when the plans are the same
+pub same-in : {p₁ p₂ : Said.Plan} {out₁ out₂ : List ℕ} {r₁ r₂ : Fresh} {out₁′ out₂′ : List ℕ} → Holds p₁ out₁ r₁ out₁′ → Holds p₂ out₂ r₂ out₂′
+    → (pagesIn r₁ out₁′ ≡ pagesIn r₂ out₂′) ↔ (p₁ ≡ p₂)
+same-in {p₁} {p₂} {out₁} {out₂} {r₁} {r₂} {out₁′} {out₂′} G₁ G₂ = same-pages p₁ p₂ (pagesIn r₁ out₁′) (pagesIn r₂ out₂′) (written-in G₁) (written-in G₂)
+
+module _ {p : Said.Plan} {out₁ out₂ : List ℕ} {r₁ r₂ : Fresh} {out₁′ out₂′ : List ℕ} (G₁ : Holds p out₁ r₁ out₁′) (G₂ : Holds p out₂ r₂ out₂′) where
+  sheets-alike : G₁ .sheets ≡ G₂ .sheets
+  sheets-alike = sym (pages-in G₁) ∙ (same-in G₁ G₂ .1 refl ∙ pages-in G₂)
+
+  -- where they hold the same plan, the same numbers tell the same pages
+  pub told-alike : (r₁ ≡ r₂) × (pagesIn r₁ out₁′ ≡ pagesIn r₂ out₂′)
+  told-alike = (G₁ .result-is ∙ (ap pagesOf sheets-alike ∙ sym (G₂ .result-is)), same-in G₁ G₂ .1 refl)
+
+  -- rooms that were lent alike are alike
+  pub room-alike : out₁ ≡ out₂ → out₁′ ≡ out₂′
+  room-alike e = G₁ .room-is ∙ (ap (λ (l : List ℕ). laid l 0 (concat (G₁ .sheets))) e ∙ (ap (λ (f : List (List ℕ)). laid out₂ 0 (concat f)) sheets-alike ∙ sym (G₂ .room-is)))
+
+  -- and a room that held the pages already has stayed as it was
+  pub room-stays : out₂ ≡ out₁′ → out₂′ ≡ out₁′
+  room-stays e =
+      let w : List ℕ = concat (G₁ .sheets) in
+      let rest : List ℕ = drop (0 + length w) out₁ in
+      G₂ .room-is
+      ∙ (ap (λ (f : List (List ℕ)). laid out₂ 0 (concat f)) (sym sheets-alike)
+      ∙ (ap (λ (l : List ℕ). laid l 0 w) (e ∙ G₁ .room-is) ∙ (ap (λ (l : List ℕ). w ++ l) (drop-at w rest (0 + length w) (omega arith)) ∙ sym (G₁ .room-is))))
+
+-- ---- a call that gives pages
+
+-- its plan, and the room that holds the plan's fresh pages
+pub record Freshly (out b ss ns : List ℕ) (r : Fresh) (out′ : List ℕ) : Type 0 where
+  pub plan : Said.Plan
+  pub is-plan : freshCall (length out) b ss ns ≡ Paper.plan plan
+  pub holds : Holds plan out r out′
+
+-- it is a call whose number is 0
+pub freshly : (out b ss ns : List ℕ) (r : Fresh) (out′ : List ℕ) → Gives out b ss ns r out′ → r .number ≡ 0 → Freshly out b ss ns r out′
+freshly out b ss ns r out′ F z = at (ends out b ss ns) (gives-end out b ss ns r out′ F (ends out b ss ns))
+  where
+    at : (x : Ends (freshCall (length out) b ss ns)) → Promised (endsWith x) out r out′ → Freshly out b ss ns r out′
+    at (stopped n k i g h e) P = let q : r .number ≡ n = ap (λ (t : Fresh). t .number) (P .result-is) in absurd (omega arith)
+    at (long p i e w) P = let q : r .number ≡ 14 = ap (λ (t : Fresh). t .number) (P .result-is) in absurd (omega arith)
+    at (fine p f e w) P = record { plan = p; is-plan = e; holds = record { sheets = f; is-fresh = w; result-is = P .result-is; room-is = P .room-is } }
