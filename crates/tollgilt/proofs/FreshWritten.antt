@@ -8,6 +8,7 @@ use lib.Dec.{leb}
 use lib.ListN.{length, drop, getD, drop-of-length-le}
 use lib.Seq.{drop-cons}
 use borrow.Author.Tests.{lt-leb}
+use Rattle.paper.specs.Plan as Said
 use Rattle.paper.specs.Reading as Paper
 use Rattle.paper.specs.Layout.{textOf}
 use Rattle.paper.specs.Writing.{Written, badCall, unsound, tooLong, written, fresh}
@@ -25,7 +26,7 @@ use Rattle.writer.proofs.WrittenBack.{read-written}
 use Rattle.tollgilt.specs.Fresh.{Answer, refusal, pages, writes, afresh, answered, refusedWith, given, roomAfter, Promised, Handed}
 use Rattle.tollgilt.specs.declared.fresh.Fresh.{Fresh}
 use Rattle.tollgilt.proofs.ListLaws.{Numbered, call-numbered, rows₀, text₀, read-here}
-use Rattle.tollgilt.proofs.FreshLaws.{plan-read, roomy-call}
+use Rattle.tollgilt.proofs.FreshLaws.{plan-read, roomy-call, Holds}
 
 -- ---- the room
 
@@ -56,6 +57,16 @@ laid-as badCall out w out′ n i P u v = not-laid 1 0 out w out′ n i P u v
 laid-as (unsound j) out w out′ n i P u v = not-laid 13 j out w out′ n i P u v
 laid-as (tooLong j) out w out′ n i P u v = not-laid 14 j out w out′ n i P u v
 laid-as (written f) out w out′ n i P u v = record { result-is = rw (u, v, P .answer-is, P .pages-are, P .lens-are); room-is = P .room-is }
+
+-- the numbers of what writing gave, as a call hands them out
+abbrev pub told : Writing → Fresh
+told w = made (Writer.numbersOf (w .answer) .number) (Writer.numbersOf (w .answer) .place) w
+
+-- where writing gave the fresh pages of a plan, the room holds them
+pub holds-written : (p : Said.Plan) (f : List (List ℕ)) (out : List ℕ) (w : Writing) (out′ : List ℕ) → fresh p ≡ written f → Writes.Promised (written f) out w out′ → Holds p out (told w) out′
+holds-written p f out w out′ e P =
+    let Q = laid-as (written f) out w out′ (told w .number) (told w .place) P refl refl in
+    record { sheets = f; is-fresh = e; result-is = Q .result-is; room-is = Q .room-is }
 
 -- what reading gives for a call with room enough
 module _ (out b ss ns : List ℕ) (h : 12600 ≤ length out) (rows text : List ℕ) (q : Reading) (R : Reads.Promised (Reads.answered rows₀ text₀ b ss ns) rows₀ text₀ q rows text) where
