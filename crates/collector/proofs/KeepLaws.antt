@@ -12,7 +12,7 @@ use borrow.Author.Tests.{leb-true, le-leb, eq-eqb, ne-eqb}
 use Rattle.paper.specs.Lists.{if, same}
 use Rattle.paper.specs.Plan.{sameHead}
 use Rattle.paper.specs.Judging.{Sheet, Judged, refused, sheet, judge}
-use Rattle.paper.specs.Reading.{sheets, judgeAll}
+use Rattle.paper.specs.Reading.{numbers, sheets, judgeAll}
 use Rattle.paper.proofs.Small.{both, unequal, same-comm}
 use Rattle.paper.proofs.PageNumbers.{numbered}
 use Rattle.markup.specs.Laid.{laid}
@@ -21,13 +21,15 @@ use Rattle.sheet.specs.Content.{contentOf, headFrom}
 use Rattle.sheet.specs.Judged.{verdictOf}
 use Rattle.sheet.specs.declared.judge.Verdict.the-variants.{Refused, Fine}
 use Rattle.reader.specs.Joining.{PageFits}
-use Rattle.reader.specs.Answers.{pageRefusal}
+use Rattle.reader.specs.Answers as Reader
 use Rattle.reader.specs.declared.answer.Answer as Read
 use Rattle.reader.specs.declared.answer.Answer.the-variants.{NoRoom, OtherHead, NumberTwice}
-use Rattle.reader.proofs.ReadingLaws.{all-said}
-use Rattle.collector.specs.Keeping.{startOf, lenOf, here, pageAt, kept, agreesWith, agreesFirst, firstWith, unchanged, keptWith, takenIn, addedAs, addedTo, addedCall}
+use Rattle.reader.proofs.ReadingLaws.{all-said, page-refused}
+use Rattle.collector.specs.Keeping.{startOf, lenOf, here, pageAt, kept, agreesWith, agreesFirst, firstWith, Answered, keptWith, takenIn, addedAs, addedTo, addedCall}
+use Rattle.collector.specs.Answers.{pageOf}
+use Rattle.collector.specs.Promise.{Promised}
 use Rattle.collector.specs.declared.store.Collector.{Collector}
-use Rattle.collector.specs.declared.adding.Adding.{Adding}
+use Rattle.collector.specs.declared.adding.Answer.{Answer}
 use Rattle.collector.specs.declared.adding.Answer.the-variants as Told
 use Rattle.collector.specs.declared.store.PageAt.the-variants.{Here, Missing}
 
@@ -153,23 +155,27 @@ by-first pages lens n a l s r P e = rw (P .is-here) (e ∙ ap (λ (v : List ℕ)
 
 -- ---- a page taken in
 
+-- what is promised of an answer and a collector is promised of the same
+pub promised-same : (x : Answered) (a b : Answer) (c d : Collector) → a ≡ b → c ≡ d → Promised x b d → Promised x a c
+promised-same x a b c d e f p = rw (e, f) p
+
 module _ (c : Collector) (w : List ℕ) (s : Sheet) where
-  pub takes-other : agreesFirst (c .pages) (c .lens) (c .first) s ≡ false → unchanged (Told.Refused (OtherHead 1)) c ≡ takenIn c w s
+  pub takes-other : agreesFirst (c .pages) (c .lens) (c .first) s ≡ false → Promised (takenIn c w s) (Told.Refused (OtherHead 1)) c
   unfolding takenIn
-  takes-other e = rw e
+  takes-other e = rw e (record { answer-is = (OtherHead 1, refl, refl); collector-is = refl })
 
   module _ (alike : agreesFirst (c .pages) (c .lens) (c .first) s ≡ true) where
-    pub takes-same : here (c .lens) (s .no) ≡ true → same w (kept (c .pages) (c .lens) (s .no)) ≡ true → unchanged Told.AlreadyHere c ≡ takenIn c w s
+    pub takes-same : here (c .lens) (s .no) ≡ true → same w (kept (c .pages) (c .lens) (s .no)) ≡ true → Promised (takenIn c w s) Told.AlreadyHere c
     unfolding takenIn
-    takes-same h e = rw (alike, h, e)
+    takes-same h e = rw (alike, h, e) (record { answer-is = refl; collector-is = refl })
 
-    pub takes-second : here (c .lens) (s .no) ≡ true → same w (kept (c .pages) (c .lens) (s .no)) ≡ false → unchanged (Told.Refused (NumberTwice 1)) c ≡ takenIn c w s
+    pub takes-second : here (c .lens) (s .no) ≡ true → same w (kept (c .pages) (c .lens) (s .no)) ≡ false → Promised (takenIn c w s) (Told.Refused (NumberTwice 1)) c
     unfolding takenIn
-    takes-second h e = rw (alike, h, e)
+    takes-second h e = rw (alike, h, e) (record { answer-is = (NumberTwice 1, refl, refl); collector-is = refl })
 
-    pub takes-new : here (c .lens) (s .no) ≡ false → _≡_ {A = Adding} (record { answer = Told.Added; collector = keptWith c w s }) (takenIn c w s)
+    pub takes-new : here (c .lens) (s .no) ≡ false → (after : Collector) → after ≡ keptWith c w s → Promised (takenIn c w s) Told.Added after
     unfolding takenIn
-    takes-new h = rw (alike, h)
+    takes-new h after e = rw (alike, h) (record { answer-is = refl; collector-is = e })
 
 -- the collector with the page of that number, from what is stored
 pub keeps : (c : Collector) (w : List ℕ) (s : Sheet) (n of first : ℕ) (pages : List ℕ) → n ≡ s .no → of ≡ s .of → first ≡ firstWith (c .lens) (c .first) n → pages ≡ laid (c .pages) ((n - 1) * 1400) w
@@ -177,15 +183,18 @@ pub keeps : (c : Collector) (w : List ℕ) (s : Sheet) (n of first : ℕ) (pages
 keeps c w s n of first pages p q f e = rw (e, f, q, p)
 
 -- a page that judging refuses
-pub adds-refused : (c : Collector) (w : List ℕ) (n i : ℕ) (a : Read.Answer) → Refused n i ≡ verdictOf (judge w) → a ≡ pageRefusal n 1 i → unchanged (Told.Refused a) c ≡ addedTo c w
+pub adds-refused : (c : Collector) (w : List ℕ) (n i : ℕ) (a : Read.Answer) → Refused n i ≡ verdictOf (judge w) → Reader.numbersOf a ≡ numbers n 1 i → Promised (addedTo c w) (Told.Refused a) c
 unfolding addedTo
 adds-refused c w n i a e f = at (judge w) e
   where
-    at : (j : Judged) → Refused n i ≡ verdictOf j → unchanged (Told.Refused a) c ≡ addedAs c w j
+    one : pageOf n ≡ 1
+    one = rw (ne-eqb n 1 (omega (arith, page-refused w n i e .least)))
+
+    at : (j : Judged) → Refused n i ≡ verdictOf j → Promised (addedAs c w j) (Told.Refused a) c
     at (refused m k) e =
         let x : n ≡ m = cc in
         let y : i ≡ k = cc in
-        rw (f, x, y)
+        rw (← x, ← y) (record { answer-is = (a, refl, rw one f); collector-is = refl })
     at (sheet t) e = let y : _≡_ {A = ℕ} 0 1 = cc in unequal y
 
 -- any other is taken in
@@ -194,6 +203,6 @@ unfolding addedTo
 adds-taken c w S = rw (S .judged)
 
 -- a page that does not lie in the buffer
-pub outside : (c : Collector) (b : List ℕ) (start len : ℕ) → leb (start + len) (length b) ≡ false → unchanged (Told.Refused NoRoom) c ≡ addedCall c b start len
+pub outside : (c : Collector) (b : List ℕ) (start len : ℕ) → leb (start + len) (length b) ≡ false → Promised (addedCall c b start len) (Told.Refused NoRoom) c
 unfolding addedCall
-outside c b start len e = rw e
+outside c b start len e = rw e (record { answer-is = (NoRoom, refl, refl); collector-is = refl })

@@ -21,24 +21,21 @@ use Rattle.paper.specs.Collecting.{sheetsIn, pagesIn, bytesAt, agrees, missingN
 use Rattle.paper.proofs.Small.{no, same-self}
 use Rattle.paper.proofs.AnyOrder.{Perm}
 use Rattle.paper.proofs.ReadSound.{judges}
-use Rattle.paper.proofs.PageNumbers.{Numbered, numbered, two-to-eight, size-place}
+use Rattle.paper.proofs.PageNumbers.{Numbered, numbered}
 use Rattle.paper.proofs.Collected.{keep, Way, way, broken, stranger, here, second, fresh, Reached, empty, more, Holds, holds, agrees-first, Rising, up-to-nine, incomplete, as-handed-in, addAll, reached-all, fed-any-order}
 use Rattle.markup.specs.Laid.{laid}
 use Rattle.plan.proofs.Stores.{laid-long, laid-there, laid-before, laid-behind}
 use Rattle.plan.specs.Numbers.{rowsLent}
 use Rattle.reader.specs.Pages.{firstOf}
-use Rattle.reader.specs.Answers as Reader
-use Rattle.reader.specs.declared.answer.Answer.the-variants.{NoRoom, OtherHead, NumberTwice}
-use Rattle.reader.proofs.AnswerLaws.{page-told}
 use Rattle.reader.proofs.Digits.{same-picked}
 use Rattle.reader.proofs.PageLaws.{without-picked}
 use Rattle.collector.specs.Keeping as Code
-use Rattle.collector.specs.Keeping.{startOf, lenOf, kept, agreesFirst, firstWith, keptWith, takenIn, addedTo, addedCall, countOf, missing, inOrder, pagesOf, readOf, collected}
-use Rattle.collector.specs.Answers.{Tells, pageOf}
+use Rattle.collector.specs.Keeping.{startOf, lenOf, kept, agreesFirst, firstWith, Answered, keptWith, takenIn, addedTo, addedCall, countOf, missing, inOrder, pagesOf, readOf, collected}
+use Rattle.collector.specs.Answers.{Tells}
+use Rattle.collector.specs.Promise.{Promised}
 use Rattle.collector.specs.Shows.{Shows, countIn, firstIn, addedAll}
 use Rattle.collector.specs.declared.store.Collector.{Collector}
-use Rattle.collector.specs.declared.adding.Adding.{Adding}
-use Rattle.collector.specs.declared.adding.Answer as Answers
+use Rattle.collector.specs.declared.adding.Answer.{Answer}
 use Rattle.collector.proofs.KeepLaws.{Kept, is-kept, kept-here, here-by, slice-part}
 use Rattle.collector.proofs.ByNumber.{order-same, all-there, in-order}
 
@@ -199,10 +196,10 @@ module _ (c : Collector) (k : Paper.Collector) (S : Shows c k) (w : List ℕ) (s
 
 -- ---- a page added
 
--- the answer is document 01's, and the collectors show each other afterwards
-pub record Adds (p : Paper.Adding) (r : Adding) : Type 0 where
-  pub answer-is : Tells (p .answer) (r .answer)
-  pub shown : Shows (r .collector) (p .after)
+-- the answer is document 01's, and the collector afterwards shows document 01's
+pub record Adds (p : Paper.Adding) (x : Answered) : Type 0 where
+  pub answer-is : x .answer ≡ p .answer
+  pub shown : Shows (x .after) (p .after)
 
 module _ (c : Collector) (k : Paper.Collector) (R : Reached k) (S : Shows c k) where
   -- a page as its bytes
@@ -210,22 +207,16 @@ module _ (c : Collector) (k : Paper.Collector) (R : Reached k) (S : Shows c k) w
   unfolding addedTo takenIn
   shows-added w = at (way k w)
     where
-      H : Holds k
-      H = holds R
-
       alike : (s : Sheet) (b : Bool) → agrees s k ≡ b → agreesFirst (c .pages) (c .lens) (c .first) s ≡ b
-      alike s b a = first-agrees c k S H s ∙ a
+      alike s b a = first-agrees c k S (holds R) s ∙ a
 
       at : {p : Paper.Adding} → Way k w p → Adds p (addedTo c w)
-      at (broken n i j) =
-          let (a, b) = two-to-eight w n i j in
-          let one : pageOf n ≡ 1 = rw (ne-eqb n 1 (omega arith)) in
-          rw j (record { answer-is = (Reader.pageRefusal n 1 i, refl, page-told n 1 i a b (size-place w n i j) ∙ rw one); shown = S })
-      at (stranger s j a) = rw (j, alike s false a) (record { answer-is = (OtherHead 1, refl, refl); shown = S })
+      at (broken n i j) = rw j (record { answer-is = refl; shown = S })
+      at (stranger s j a) = rw (j, alike s false a) (record { answer-is = refl; shown = S })
       at (here s j a b e) =
           let t : same w (kept (c .pages) (c .lens) (s .no)) ≡ true = ap (same w) (S .bytes-are (s .no) b) ∙ (ap (λ (v : List ℕ). same v (bytesAt (s .no) k)) e ∙ same-self (bytesAt (s .no) k)) in
           rw (j, alike s true a, S .pages-are (s .no) ∙ b, t) (record { answer-is = refl; shown = S })
-      at (second s j a b e) = rw (j, alike s true a, S .pages-are (s .no) ∙ b, ap (same w) (S .bytes-are (s .no) b) ∙ e) (record { answer-is = (NumberTwice 1, refl, refl); shown = S })
+      at (second s j a b e) = rw (j, alike s true a, S .pages-are (s .no) ∙ b, ap (same w) (S .bytes-are (s .no) b) ∙ e) (record { answer-is = refl; shown = S })
       at (fresh s j a b) =
           let J = judges w s j in
           rw (j, alike s true a, S .pages-are (s .no) ∙ b) (record { answer-is = refl; shown = shows-more c k S w s (numbered w s j) (J .some-bytes) (J .short) b a })
@@ -235,9 +226,13 @@ module _ (c : Collector) (k : Paper.Collector) (R : Reached k) (S : Shows c k) w
   unfolding Paper.addCall addedCall
   shows-call b start len = at (leb (start + len) (length b))
     where
-      at : (t : Bool) → Adds (if t (Paper.add k (take len (drop start b))) (Paper.unchanged (Paper.refusedWith 1 0) k)) (if t (addedTo c (take len (drop start b))) (Code.unchanged (Answers.the-variants.Refused NoRoom) c))
+      at : (t : Bool) → Adds (if t (Paper.add k (take len (drop start b))) (Paper.unchanged (Paper.refusedWith 1 0) k)) (if t (addedTo c (take len (drop start b))) (Code.unchanged (Paper.refusedWith 1 0) c))
       at true = shows-added (take len (drop start b))
-      at false = record { answer-is = (NoRoom, refl, refl); shown = S }
+      at false = record { answer-is = refl; shown = S }
+
+-- so what `add`, `add_bytes` and `add_page` give: an answer that tells document 01's, and a collector that shows document 01's
+pub shows-promised : (p : Paper.Adding) (x : Answered) (a : Answer) (after : Collector) → Adds p x → Promised x a after → Tells (p .answer) a × Shows after (p .after)
+shows-promised p x a after A P = (subst (λ (y : Paper.Added). Tells y a) (A .answer-is) (P .answer-is), subst (λ (d : Collector). Shows d (p .after)) (sym (P .collector-is)) (A .shown))
 
 -- ---- the missing numbers
 
@@ -283,11 +278,11 @@ module _ (c : Collector) (k : Paper.Collector) (R : Reached k) (S : Shows c k) w
   unfolding readOf
   shows-read = rw (missing-are c k R S) (at (missingNumbers k) refl (up-to-nine R))
     where
-      above : (n : ℕ) (a : Said.Answer) → 1 ≤ n → Said.first n (Said.refusal 11 n 0) a ≡ Said.refusal 11 n 0
+      above : (n : ℕ) (a : Said.Answer) → 1 ≤ n → Said.refuseAt 11 n a ≡ Said.refusal 11 n 0
       above zero a h = absurd (omega arith)
       above (suc n) a h = refl
 
-      at : (ms : List ℕ) → missingNumbers k ≡ ms → Rising 1 10 (missingNumbers k) → Said.first (firstOf ms) (Said.refusal 11 (firstOf ms) 0) (Said.read (pagesOf c)) ≡ readCollected k
+      at : (ms : List ℕ) → missingNumbers k ≡ ms → Rising 1 10 (missingNumbers k) → Said.refuseAt 11 (firstOf ms) (Said.read (pagesOf c)) ≡ readCollected k
       at [] e u = as-handed-in R (pagesOf c) (pages-order e)
       at (n ∷ ns) e u = let r : Rising 1 10 (n ∷ ns) = subst (Rising 1 10) e u in above n (Said.read (pagesOf c)) (r .0) ∙ sym (incomplete R n ns e)
 
@@ -301,7 +296,7 @@ module _ (c : Collector) (k : Paper.Collector) (R : Reached k) (S : Shows c k) w
 -- pages one after another
 pub shows-all : (c : Collector) (k : Paper.Collector) → Reached k → Shows c k → (ws : List (List ℕ)) → Shows (addedAll c ws) (addAll k ws)
 shows-all c k R S [] = S
-shows-all c k R S (w ∷ ws) = shows-all (addedTo c w .collector) (Paper.add k w .after) (more w R) (shows-added c k R S w .shown) ws
+shows-all c k R S (w ∷ ws) = shows-all (addedTo c w .after) (Paper.add k w .after) (more w R) (shows-added c k R S w .shown) ws
 
 -- pages that are accepted at once, given to an empty collector in any order: none is missing, and it reads as their plan
 pub any-order : (f g : List (List ℕ)) (p : Plan) → Perm f g → Said.read f ≡ Said.plan p → (missing (addedAll Code.emptyCollector g) ≡ []) × (readOf (addedAll Code.emptyCollector g) ≡ Said.plan p)

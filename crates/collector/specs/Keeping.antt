@@ -11,17 +11,13 @@ use Rattle.paper.specs.Plan.{sameHead}
 use Rattle.paper.specs.Judging.{Sheet, Judged, refused, sheet, judge}
 use Rattle.paper.specs.Calls.{roomy}
 use Rattle.paper.specs.Reading as Paper
+use Rattle.paper.specs.Collecting.{Added, added, alreadyHere, refusedWith}
 use Rattle.markup.specs.Laid.{laid}
 use Rattle.plan.specs.Numbers.{rowsLent}
 use Rattle.reader.specs.Pages.{picked, firstOf}
-use Rattle.reader.specs.Answers.{pageRefusal}
-use Rattle.reader.specs.declared.answer.Answer.the-variants.{NoRoom, OtherHead, NumberTwice}
 use Rattle.collector.specs.declared.store.Collector.{Collector}
 use Rattle.collector.specs.declared.store.PageAt.{PageAt}
 use Rattle.collector.specs.declared.store.PageAt.the-variants.{Here, Missing}
-use Rattle.collector.specs.declared.adding.Answer.{Answer}
-use Rattle.collector.specs.declared.adding.Answer.the-variants.{Added, AlreadyHere, Refused}
-use Rattle.collector.specs.declared.adding.Adding.{Adding}
 
 -- the collector without any page
 abbrev pub emptyCollector : Collector
@@ -64,9 +60,14 @@ agreesFirst pages lens first s = if (here lens first) (agreesWith s (judge (kept
 unfoldable pub firstWith : List ℕ → ℕ → ℕ → ℕ
 firstWith lens first n = if (here lens first) first n
 
+-- what document 01 answers to a page, and the collector afterwards
+pub record Answered : Type 0 where
+  pub answer : Added
+  pub after : Collector
+
 -- "A refusal changes … no collector", nor does "already here"
-abbrev pub unchanged : Answer → Collector → Adding
-unchanged a c = record { answer = a; collector = c }
+abbrev pub unchanged : Added → Collector → Answered
+unchanged a c = record { answer = a; after = c }
 
 -- the page at its number's place, with its length
 abbrev pub keptWith : Collector → List ℕ → Sheet → Collector
@@ -78,23 +79,23 @@ keptWith c w s = record {
 }
 
 -- a page that says s: 9, "already here", 10, or it is kept
-unfoldable pub takenIn : Collector → List ℕ → Sheet → Adding
-takenIn c w s = if (not (agreesFirst (c .pages) (c .lens) (c .first) s)) (unchanged (Refused (OtherHead 1)) c)
-    (if (here (c .lens) (s .no)) (if (same w (kept (c .pages) (c .lens) (s .no))) (unchanged AlreadyHere c) (unchanged (Refused (NumberTwice 1)) c))
-    (record { answer = Added; collector = keptWith c w s }))
+unfoldable pub takenIn : Collector → List ℕ → Sheet → Answered
+takenIn c w s = if (not (agreesFirst (c .pages) (c .lens) (c .first) s)) (unchanged (refusedWith 9 0) c)
+    (if (here (c .lens) (s .no)) (if (same w (kept (c .pages) (c .lens) (s .no))) (unchanged alreadyHere c) (unchanged (refusedWith 10 0) c))
+    (record { answer = added; after = keptWith c w s }))
 
 -- by what judging the page gave: 2 to 8 first
-abbrev pub addedAs : Collector → List ℕ → Judged → Adding
-addedAs c w (refused n i) = unchanged (Refused (pageRefusal n 1 i)) c
+abbrev pub addedAs : Collector → List ℕ → Judged → Answered
+addedAs c w (refused n i) = unchanged (refusedWith n i) c
 addedAs c w (sheet s) = takenIn c w s
 
 -- any bytes as a page
-unfoldable pub addedTo : Collector → List ℕ → Adding
+unfoldable pub addedTo : Collector → List ℕ → Answered
 addedTo c w = addedAs c w (judge w)
 
 -- a page of a buffer; one that does not lie in it gives 1
-unfoldable pub addedCall : Collector → List ℕ → ℕ → ℕ → Adding
-addedCall c b start len = if (leb (start + len) (length b)) (addedTo c (take len (drop start b))) (unchanged (Refused NoRoom) c)
+unfoldable pub addedCall : Collector → List ℕ → ℕ → ℕ → Answered
+addedCall c b start len = if (leb (start + len) (length b)) (addedTo c (take len (drop start b))) (unchanged (refusedWith 1 0) c)
 
 -- ---- the missing numbers
 

@@ -33,4 +33,4 @@ pub record Shows (c : Collector) (k : Paper.Collector) : Type 0 where
 -- the collector after some pages, one after another
 abbrev pub addedAll : Collector → List (List ℕ) → Collector
 addedAll c [] = c
-addedAll c (w ∷ ws) = addedAll (addedTo c w .collector) ws
+addedAll c (w ∷ ws) = addedAll (addedTo c w .after) ws

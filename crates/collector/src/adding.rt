@@ -6,8 +6,8 @@ ghost use Rattle.paper.specs.Judging.{judge};
 ghost use Rattle.markup.specs.Walk.{tagsAt};
 ghost use Rattle.sheet.specs.Content.{contentOf};
 ghost use Rattle.reader.specs.Joining.{PageFits};
-ghost use Rattle.collector.specs.Keeping as Keeping;
 ghost use Rattle.collector.specs.Keeping.{agreesWith, agreesFirst, firstWith, takenIn, addedTo, addedCall};
+ghost use Rattle.collector.specs.Promise.{Promised};
 use crate::store::Collector;
 use crate::store::PageAt;
 use crate::store::page_at;
@@ -40,7 +40,7 @@ pub struct Adding {
 
 // The answer to a page that is not added: the collector is as it was.
 fn unchanged(c: Collector, answer: Answer) -> Adding
-    ensures { λ r. ⌜ r ≡ Keeping.unchanged answer c ⌝ }
+    ensures { λ r. ⌜ (r .answer ≡ answer) × (r .collector ≡ c) ⌝ }
 {
     Adding {
         answer: answer,
@@ -92,7 +92,7 @@ fn first_with(lens: [u16; 9], first: u8, n: u8) -> u8
 // A page without faults: refused with 9 against the first page, already here, refused with 10, or kept.
 fn take_in(c: Collector, page: &[u8]) -> Adding
     requires { ⌜ PageFits (now page) × (1 ≤ contentOf (tagsAt (now page) 0) .no) ⌝ }
-    ensures { λ r. ⌜ r ≡ takenIn c (now (page .entry)) (contentOf (tagsAt (now (page .entry)) 0)) ⌝ }
+    ensures { λ r. ⌜ Promised (takenIn c (now (page .entry)) (contentOf (tagsAt (now (page .entry)) 0))) (r .answer) (r .collector) ⌝ }
 {
     let mut pages = c.pages;
     let mut lens = c.lens;
@@ -126,7 +126,7 @@ fn take_in(c: Collector, page: &[u8]) -> Adding
 
 // Any bytes as a page: refused with 2 to 8 as judging says, else taken in.
 pub fn add_bytes(c: Collector, page: &[u8]) -> Adding
-    ensures { λ r. ⌜ r ≡ addedTo c (now (page .entry)) ⌝ }
+    ensures { λ r. ⌜ Promised (addedTo c (now (page .entry))) (r .answer) (r .collector) ⌝ }
 {
     let mut scratch = [0u8; 1400];
     let verdict = judge_page(page, &mut scratch);
@@ -142,7 +142,7 @@ pub fn add_bytes(c: Collector, page: &[u8]) -> Adding
 // Adds a page of the buffer, from `start` on, `len` bytes long: added, already here, or refused with 1 (the page lies outside the buffer), 2 to 8, 9 or 10.
 // Only where it is added does the collector change.
 pub fn add(c: Collector, buffer: &[u8], start: usize, len: usize) -> Adding
-    ensures { λ r. ⌜ r ≡ addedCall c (now (buffer .entry)) start len ⌝ }
+    ensures { λ r. ⌜ Promised (addedCall c (now (buffer .entry)) start len) (r .answer) (r .collector) ⌝ }
 {
     if !lies_in(buffer.len(), start, len) {
         return unchanged(c, Answer::Refused(Refusal::NoRoom));
@@ -152,7 +152,7 @@ pub fn add(c: Collector, buffer: &[u8], start: usize, len: usize) -> Adding
 
 // The same of a collector that is lent: it is then as `add` leaves it.
 pub fn add_page(c: &mut Collector, buffer: &[u8], start: usize, len: usize) -> Answer
-    ensures { λ r. ⌜ (r ≡ addedCall (now (c .entry)) (now (buffer .entry)) start len .answer) × (now (c .exit) ≡ addedCall (now (c .entry)) (now (buffer .entry)) start len .collector) ⌝ }
+    ensures { λ r. ⌜ Promised (addedCall (now (c .entry)) (now (buffer .entry)) start len) r (now (c .exit)) ⌝ }
 {
     let r = add(*c, buffer, start, len);
     *c = r.collector;

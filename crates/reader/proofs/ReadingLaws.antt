@@ -14,7 +14,7 @@ use Rattle.paper.specs.Lists.{if}
 use Rattle.paper.specs.Plan.{sameHead}
 use Rattle.paper.specs.Plan as Said
 use Rattle.paper.specs.Judging.{Sheet, Judged, refused, sheet, judge}
-use Rattle.paper.specs.Reading.{numbers, Judgement, stopped, sheets, cons, judgeAll, has, page9, page10, number11, joined, refuseAt, enough, join, decide, read}
+use Rattle.paper.specs.Reading.{Numbers, numbers, Judgement, stopped, sheets, cons, judgeAll, has, page9, page10, number11, joined, refuseAt, enough, join, decide, read}
 use Rattle.paper.specs.Reading as Paper
 use Rattle.paper.specs.Layout.{textOf}
 use Rattle.paper.specs.Collecting.{maskOf}
@@ -30,15 +30,14 @@ use Rattle.plan.specs.Records.{emptyPlan}
 use Rattle.markup.specs.Laid.{laid}
 use Rattle.sheet.specs.Content.{contentOf}
 use Rattle.sheet.specs.Judged.{verdictOf}
-use Rattle.reader.specs.Answers.{numbersOf, pageRefusal}
+use Rattle.reader.specs.Answers.{numbersOf, toldOf, PageRefusal}
 use Rattle.reader.specs.Pages.{present, absent, numbersIn, firstOf}
 use Rattle.reader.specs.Joining.{sheetsOf, PageFits, AllFit, firstOther, countSaid, planIn, noPlan}
-use Rattle.reader.specs.Promise.{Promised, answered, judgedAs}
+use Rattle.reader.specs.Promise.{Promised, answered}
 use Rattle.reader.specs.declared.answer.Answer.{Answer}
-use Rattle.reader.specs.declared.answer.Answer.the-variants.{Plan, PageSize, ByteRefused, Malformed, OutOfPlace, OtherEdition, BrokenValue, Incomplete}
+use Rattle.reader.specs.declared.answer.Answer.the-variants.{Plan}
 use Rattle.sheet.specs.declared.judge.Verdict.the-variants.{Refused, Fine}
 use Rattle.reader.specs.declared.reading.Reading.{Reading}
-use Rattle.reader.proofs.AnswerLaws.{page-told}
 use Rattle.reader.proofs.CallFacts.{call-fits, room-fits}
 use Rattle.reader.proofs.JoiningLaws.{sheets-count}
 use Rattle.sheet.proofs.PageLaws.{page-content, page-fit, page-short}
@@ -80,10 +79,10 @@ all-said (w ∷ ws) k l e = at (judge w) (judgeAll (suc k) ws) refl (λ m q. all
 
 module _ (ws : List (List ℕ)) (i : ℕ) (w : List ℕ) (turn : drop i ws ≡ w ∷ drop (suc i) ws) where
   -- a page that is refused ends it
-  pub stops : (n p : ℕ) → Refused n p ≡ verdictOf (judge w) → pageRefusal n (i + 1) p ≡ judgedAs (judgeAll (i + 1) (drop i ws))
+  pub stops : (n p : ℕ) → Refused n p ≡ verdictOf (judge w) → numbers n (i + 1) p ≡ toldOf (judgeAll (i + 1) (drop i ws))
   stops n p e = rw turn (at (judge w) e)
     where
-      at : (j : Judged) → Refused n p ≡ verdictOf j → pageRefusal n (i + 1) p ≡ judgedAs (cons j (i + 1) (judgeAll (suc (i + 1)) (drop (suc i) ws)))
+      at : (j : Judged) → Refused n p ≡ verdictOf j → numbers n (i + 1) p ≡ toldOf (cons j (i + 1) (judgeAll (suc (i + 1)) (drop (suc i) ws)))
       at (refused m q) e =
           let x : n ≡ m = cc in
           let y : p ≡ q = cc in
@@ -91,52 +90,39 @@ module _ (ws : List (List ℕ)) (i : ℕ) (w : List ℕ) (turn : drop i ws ≡ w
       at (sheet s) e = let y : _≡_ {A = ℕ} 0 1 = cc in unequal y
 
   -- behind a page without faults it goes on
-  pub goes-on : Fine ≡ verdictOf (judge w) → judgedAs (judgeAll (i + 1) (drop i ws)) ≡ judgedAs (judgeAll (i + 1 + 1) (drop (i + 1) ws))
+  pub goes-on : Fine ≡ verdictOf (judge w) → toldOf (judgeAll (i + 1) (drop i ws)) ≡ toldOf (judgeAll (i + 1 + 1) (drop (i + 1) ws))
   goes-on e = rw (turn, add-one i, add-one (suc i)) (at (judge w) (judgeAll (suc (suc i)) (drop (suc i) ws)) e)
     where
-      at : (j : Judged) (J : Judgement) → Fine ≡ verdictOf j → judgedAs (cons j (suc i) J) ≡ judgedAs J
+      at : (j : Judged) (J : Judgement) → Fine ≡ verdictOf j → toldOf (cons j (suc i) J) ≡ toldOf J
       at (refused m q) J e = let y : _≡_ {A = ℕ} 0 1 = cc in unequal y
       at (sheet s) (stopped n k q) e = refl
       at (sheet s) (sheets l) e = refl
 
 -- no page is left
-pub none-refused : (ws : List (List ℕ)) (i : ℕ) → length ws ≤ i → Plan ≡ judgedAs (judgeAll (i + 1) (drop i ws))
+pub none-refused : (ws : List (List ℕ)) (i : ℕ) → length ws ≤ i → numbers 0 0 0 ≡ toldOf (judgeAll (i + 1) (drop i ws))
 none-refused ws i h = rw (drop-of-length-le ws h)
 
--- where the pages stop, the refusal carries their numbers
-record Told (J : Judgement) : Type 0 where
-  tells : (n k i : ℕ) → J ≡ stopped n k i → numbersOf (pageRefusal n k i) ≡ numbers n k i
-
-told-all : (ws : List (List ℕ)) (k : ℕ) → Told (judgeAll k ws)
-told-all [] k = record { tells = λ n j i e. let y : _≡_ {A = ℕ} 0 1 = cc in unequal y }
-told-all (w ∷ ws) k = at (judge w) refl (judgeAll (suc k) ws) (told-all ws (suc k))
+-- a page's refusal is one of the table's
+pub page-refused : (w : List ℕ) (n i : ℕ) → Refused n i ≡ verdictOf (judge w) → PageRefusal n i
+page-refused w n i e = at (judge w) refl e
   where
-    at : (j : Judged) → judge w ≡ j → (J : Judgement) → Told J → Told (cons j k J)
-    at (refused m q) p J t =
-        let (a, b) = two-to-eight w m q p in
-        record {
-          tells = λ n j i e.
-              let x : m ≡ n = cc in
-              let y : k ≡ j = cc in
-              let z : q ≡ i = cc in
-              rw (← x, ← y, ← z) (page-told m k q a b (size-place w m q p));
-        }
-    at (sheet s) p (stopped m j q) t = t
-    at (sheet s) p (sheets l) t = record { tells = λ n j i e. let y : _≡_ {A = ℕ} 0 1 = cc in unequal y }
+    at : (j : Judged) → judge w ≡ j → Refused n i ≡ verdictOf j → PageRefusal n i
+    at (refused m k) p e =
+        let x : n ≡ m = cc in
+        let y : i ≡ k = cc in
+        let (a, b) = two-to-eight w m k p in
+        rw (x, y) (record { least = a; most = b; size-place = size-place w m k p })
+    at (sheet s) p e = let y : _≡_ {A = ℕ} 0 1 = cc in unequal y
 
--- no refusal of a page has the number 0
-refusal-not-zero : (n k i : ℕ) → numbersOf (pageRefusal n k i) .number ≡ 0 → ⊥
-unfolding pageRefusal
-refusal-not-zero n k i e = at (eqb n 2) (eqb n 3) (eqb n 4) (eqb n 5) (eqb n 6) (eqb n 7) e
+-- so where nothing is told, no page is refused
+none-told : (ws : List (List ℕ)) (k : ℕ) → toldOf (judgeAll k ws) .number ≡ 0 → (l : List Sheet) × (judgeAll k ws ≡ sheets l)
+none-told [] k e = ([], refl)
+none-told (w ∷ ws) k e = at (judge w) refl (judgeAll (suc k) ws) (none-told ws (suc k)) e
   where
-    at : (a b c d f g : Bool) → numbersOf (if a (PageSize k) (if b (ByteRefused k i) (if c (Malformed k i) (if d (OutOfPlace k i) (if f (OtherEdition k i) (if g (BrokenValue k i) (Incomplete k i))))))) .number ≡ 0 → ⊥
-    at true b c d f g e = omega arith
-    at false true c d f g e = omega arith
-    at false false true d f g e = omega arith
-    at false false false true f g e = omega arith
-    at false false false false true g e = omega arith
-    at false false false false false true e = omega arith
-    at false false false false false false e = omega arith
+    at : (j : Judged) → judge w ≡ j → (J : Judgement) → (toldOf J .number ≡ 0 → (l : List Sheet) × (J ≡ sheets l)) → toldOf (cons j k J) .number ≡ 0 → (l : List Sheet) × (cons j k J ≡ sheets l)
+    at (refused m q) p J h e = let (a, b) = two-to-eight w m q p in absurd (omega arith)
+    at (sheet s) p (stopped m j q) h e = let (l, x) = h e in let y : _≡_ {A = ℕ} 0 1 = cc in unequal y
+    at (sheet s) p (sheets l) h e = (s ∷ l, refl)
 
 -- ---- the join, step by step
 
@@ -228,27 +214,24 @@ module _ (rows text b ss ns : List ℕ) where
         rw (room, call, pages-count b ss ns (F .lie), le-leb 1 (length ss) (F .some), le-leb (length ss) 9 (F .nine))
 
 -- the pages are judged, and the answer is a refusal
-pub refused-as : (ws : List (List ℕ)) (a : Answer) → a ≡ judgedAs (judgeAll 1 ws) → (numbersOf a .number ≡ 0 → ⊥)
+pub refused-as : (ws : List (List ℕ)) (a : Answer) → numbersOf a ≡ toldOf (judgeAll 1 ws) → (numbersOf a .number ≡ 0 → ⊥)
     → (n : ℕ) × (k : ℕ) × (i : ℕ) × (decide (judgeAll 1 ws) ≡ Paper.refusal n k i) × (numbersOf a ≡ numbers n k i)
-refused-as ws a e h = at (judgeAll 1 ws) (told-all ws 1) e
+refused-as ws a e h = at (judgeAll 1 ws) e
   where
-    at : (J : Judgement) → Told J → a ≡ judgedAs J → (n : ℕ) × (k : ℕ) × (i : ℕ) × (decide J ≡ Paper.refusal n k i) × (numbersOf a ≡ numbers n k i)
-    at (stopped n k i) t e = (n, k, i, refl, ap numbersOf e ∙ t .tells n k i refl)
-    at (sheets l) t e = absurd (h (ap (λ (x : Answer). numbersOf x .number) e))
+    at : (J : Judgement) → numbersOf a ≡ toldOf J → (n : ℕ) × (k : ℕ) × (i : ℕ) × (decide J ≡ Paper.refusal n k i) × (numbersOf a ≡ numbers n k i)
+    at (stopped n k i) e = (n, k, i, refl, e)
+    at (sheets l) e = absurd (h (ap (λ (t : Numbers). t .number) e))
 
 -- the pages are judged, and none is refused: what they say is joined
 pub record Clean (ws : List (List ℕ)) : Type 0 where
   pub fits : AllFit ws
   pub joins : decide (judgeAll 1 ws) ≡ join (sheetsOf ws)
 
-pub clean : (ws : List (List ℕ)) (a : Answer) → a ≡ judgedAs (judgeAll 1 ws) → numbersOf a .number ≡ 0 → Clean ws
-clean ws a e z = at (judgeAll 1 ws) refl e
-  where
-    at : (J : Judgement) → judgeAll 1 ws ≡ J → a ≡ judgedAs J → Clean ws
-    at (stopped n k i) p e = absurd (refusal-not-zero n k i (ap (λ (x : Answer). numbersOf x .number) (sym e) ∙ z))
-    at (sheets l) p e =
-        let (f, q) = all-said ws 1 l p in
-        record { fits = f; joins = ap decide p ∙ ap join q }
+pub clean : (ws : List (List ℕ)) (a : Answer) → numbersOf a ≡ toldOf (judgeAll 1 ws) → numbersOf a .number ≡ 0 → Clean ws
+clean ws a e z =
+    let (l, p) = none-told ws 1 (ap (λ (t : Numbers). t .number) (sym e) ∙ z) in
+    let (f, q) = all-said ws 1 l p in
+    record { fits = f; joins = ap decide p ∙ ap join q }
 
 -- the count that the first page says is a page number
 pub count-small : (ws : List (List ℕ)) → AllFit ws → countSaid (sheetsOf ws) ≤ 9
@@ -271,7 +254,7 @@ pub record Joins (rows text b ss ns : List ℕ) : Type 0 where
   pub join-is : answered rows text b ss ns ≡ join (sheetsOf (pagesAt b ss ns))
 
 pub joins : (rows text b ss ns : List ℕ) → roomy (rowsLent (length rows)) (length text) ≡ true → (leb 1 (length ss) && (leb (length ss) 9 && inside b ss ns)) ≡ true
-    → (a : Answer) → a ≡ judgedAs (judgeAll 1 (pagesAt b ss ns)) → numbersOf a .number ≡ 0 → Joins rows text b ss ns
+    → (a : Answer) → numbersOf a ≡ toldOf (judgeAll 1 (pagesAt b ss ns)) → numbersOf a .number ≡ 0 → Joins rows text b ss ns
 joins rows text b ss ns room call a e z =
     let ws : List (List ℕ) = pagesAt b ss ns in
     let F = call-fits b ss ns call in

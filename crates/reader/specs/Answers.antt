@@ -1,8 +1,7 @@
 -- Answers: document 01, "Refusal numbers and their order". The number, page and place of each answer that code gives.
 -- Assumes nothing.
-use Prim.Native.Nat.{ℕ}
-use lib.Dec.{eqb}
-use Rattle.paper.specs.Lists.{if}
+use mathlib.Core.Path.{_≡_}
+use Prim.Native.Nat.{ℕ, _≤_}
 use Rattle.paper.specs.Reading as Paper
 use Rattle.paper.specs.Reading.{Numbers, numbers}
 use Rattle.reader.specs.declared.answer.Answer.{Answer}
@@ -29,6 +28,13 @@ abbrev pub told : Paper.Answer → Numbers
 told (Paper.refusal n k i) = numbers n k i
 told (Paper.plan p) = numbers 0 0 0
 
--- the answer for page k, refused with n at place i
-unfoldable pub pageRefusal : ℕ → ℕ → ℕ → Answer
-pageRefusal n k i = if (eqb n 2) (PageSize k) (if (eqb n 3) (ByteRefused k i) (if (eqb n 4) (Malformed k i) (if (eqb n 5) (OutOfPlace k i) (if (eqb n 6) (OtherEdition k i) (if (eqb n 7) (BrokenValue k i) (Incomplete k i))))))
+-- what is told of pages judged one by one: the refusal of the first that is refused; else nothing is
+abbrev pub toldOf : Paper.Judgement → Numbers
+toldOf (Paper.stopped n k i) = numbers n k i
+toldOf (Paper.sheets l) = numbers 0 0 0
+
+-- a page's refusal in the table: one of 2 to 8, and 2 has no place
+pub record PageRefusal (n i : ℕ) : Type 0 where
+  pub least : 2 ≤ n
+  pub most : n ≤ 8
+  pub size-place : n ≡ 2 → i ≡ 0

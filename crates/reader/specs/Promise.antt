@@ -13,8 +13,7 @@ use Rattle.paper.specs.Calls.{readCall}
 use Rattle.markup.specs.Laid.{laid}
 use Rattle.plan.specs.Numbers.{rowsLent, planNumbers, planRows}
 use Rattle.plan.specs.Records.{emptyPlan}
-use Rattle.reader.specs.Answers.{numbersOf, pageRefusal}
-use Rattle.reader.specs.declared.answer.Answer.{Answer}
+use Rattle.reader.specs.Answers.{numbersOf}
 use Rattle.reader.specs.declared.answer.Answer.the-variants.{Plan}
 use Rattle.reader.specs.declared.reading.Reading.{Reading}
 
@@ -40,8 +39,3 @@ Promised (Paper.plan p) rows text r rows′ text′ = Reads p rows text r rows�
 -- document 01's answer for a call that lends these rooms: the rows as numbers, 48 to a row
 abbrev pub answered : List ℕ → List ℕ → List ℕ → List ℕ → List ℕ → Paper.Answer
 answered rows text buffer starts lens = readCall (rowsLent (length rows)) (length text) buffer starts lens
-
--- the answer for the pages judged one by one: the refusal of the first that is refused, else the code's word for going on
-abbrev pub judgedAs : Paper.Judgement → Answer
-judgedAs (Paper.stopped n k i) = pageRefusal n k i
-judgedAs (Paper.sheets l) = Plan

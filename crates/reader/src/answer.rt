@@ -1,6 +1,7 @@
 // The answer to a call that reads pages: a plan, or a refusal of document 01's table, named for what happened.
 ghost use mathlib.Core.Path.{_≡_};
-ghost use Rattle.reader.specs.Answers.{numbersOf, pageRefusal};
+ghost use Rattle.paper.specs.Reading.{numbers};
+ghost use Rattle.reader.specs.Answers.{numbersOf, PageRefusal};
 
 // What reading answers. A page is counted from 1 in the order handed in; a place is the offset of a byte in its page.
 pub enum Answer {
@@ -97,7 +98,8 @@ pub fn refusal_place(a: Answer) -> u32
 
 // The answer for a page that is refused with one of the numbers 2 to 8.
 pub fn refused_page(number: u32, page: u32, place: u32) -> Answer
-    ensures { λ r. ⌜ r ≡ pageRefusal number page place ⌝ }
+    requires { ⌜ PageRefusal number place ⌝ }
+    ensures { λ r. ⌜ numbersOf r ≡ numbers number page place ⌝ }
 {
     match number {
         2 => Answer::PageSize(page),

@@ -5,7 +5,8 @@ ghost use Prim.Native.Nat.{_≤_};
 ghost use lib.ListN.{length};
 ghost use Rattle.paper.specs.Reading.{judgeAll};
 ghost use Rattle.paper.specs.Calls.{inside, pagesAt};
-ghost use Rattle.reader.specs.Promise.{Promised, answered, judgedAs};
+ghost use Rattle.reader.specs.Answers.{numbersOf, toldOf};
+ghost use Rattle.reader.specs.Promise.{Promised, answered};
 use crate::answer::Answer;
 use crate::answer::refusal_number;
 use crate::answer::refused_page;
@@ -31,7 +32,7 @@ pub struct Reading {
 // Judges each page in the order handed in. Answers the refusal of the first page that has a fault; `Plan` if none has one.
 pub fn judge_all<'a>(buffer: &'a [u8], starts: &'a [usize], lens: &'a [usize]) -> Answer
     requires { ⌜ (length (now starts) ≤ 9) × (inside (now buffer) (now starts) (now lens) ≡ true) ⌝ }
-    ensures { λ r. ⌜ r ≡ judgedAs (judgeAll 1 (pagesAt (now (buffer .entry)) (now (starts .entry)) (now (lens .entry)))) ⌝ }
+    ensures { λ r. ⌜ numbersOf r ≡ toldOf (judgeAll 1 (pagesAt (now (buffer .entry)) (now (starts .entry)) (now (lens .entry)))) ⌝ }
 {
     let mut scratch = [0u8; 1400];
     let n = starts.len();

@@ -1,6 +1,6 @@
 -- `collector::adding::add` meets its contract: a page that lies in the buffer is added as its bytes.
 -- Assumes nothing.
-use mathlib.Core.Path.{_≡_, ap, sym, _∙_}
+use mathlib.Core.Path.{_≡_, sym, _∙_, subst}
 use mathlib.Core.Bool.{true}
 use Prim.Native.Nat.{ℕ, _+_, _-_, _≤_}
 use native.Mathlib.Omega.{arith}
@@ -9,7 +9,8 @@ use lib.ListN.{length, take, drop}
 use denote.Ref.{now}
 use borrow.Author.Tests.{not-true, not-false, leb-true}
 use Rattle.collector.specs.Keeping.{addedTo, addedCall}
-use Rattle.collector.proofs.KeepLaws.{outside}
+use Rattle.collector.specs.Promise.{Promised}
+use Rattle.collector.proofs.KeepLaws.{promised-same, outside}
 use borrow.Author.Needs.{needs}
 use Rattle.collector.proofs.adding.add.Statement.{statement}
 use Rattle.collector.proofs.adding.add.Tie as tie
@@ -28,7 +29,7 @@ unchanged-requires : tie.Need-unchanged-requires
 unchanged-requires c κs = search needs
 
 returns : tie.Need-returns
-returns c = c .unchanged .ensures ∙ outside _ _ _ _ (sym (c .before .before .lies-in .ensures) ∙ not-true _ (c .before .if1 .taken))
+returns c = promised-same _ _ _ _ _ (c .unchanged .ensures .0) (c .unchanged .ensures .1) (outside _ _ _ _ (sym (c .before .before .lies-in .ensures) ∙ not-true _ (c .before .if1 .taken)))
 
 add-add-bytes : tie.Need-add-add-bytes
 add-add-bytes c = omega (arith, inside-at c)
@@ -51,7 +52,7 @@ returns-2 c =
     let E = c .before .before in
     let a = E .before .before .before .args in
     let e : a .start + a .len - a .start ≡ a .len = omega arith in
-    rw (lies-at E) (c .add-bytes .ensures ∙ ap (λ (n : ℕ). addedTo (a .c) (take n (drop (a .start) (now (a .buffer))))) e)
+    rw (lies-at E) (subst (λ (n : ℕ). Promised (addedTo (a .c) (take n (drop (a .start) (now (a .buffer))))) (c .add-bytes .result .answer) (c .add-bytes .result .collector)) e (c .add-bytes .ensures))
 
 pub add-spec : {M : Type 1} → statement M
 add-spec =

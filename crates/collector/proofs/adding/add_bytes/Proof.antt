@@ -2,7 +2,8 @@
 -- Assumes nothing.
 use mathlib.Core.Path.{sym, _∙_}
 use denote.Ref.{now}
-use Rattle.collector.proofs.KeepLaws.{Says, says, adds-refused, adds-taken}
+use Rattle.reader.proofs.ReadingLaws.{page-refused}
+use Rattle.collector.proofs.KeepLaws.{Says, says, promised-same, adds-refused, adds-taken}
 use borrow.Author.Needs.{needs}
 use Rattle.collector.proofs.adding.add_bytes.Statement.{statement}
 use Rattle.collector.proofs.adding.add_bytes.Tie as tie
@@ -27,7 +28,7 @@ cast-refused-page-2 : tie.Need-cast-refused-page-2
 cast-refused-page-2 c = search needs
 
 refused-page-requires : tie.Need-refused-page-requires
-refused-page-requires c κs = search needs
+refused-page-requires c κs = let R = c .before in page-refused _ _ _ (sym (R .verdict .given .1) ∙ R .before .before .before .judge-page .ensures)
 
 unchanged-requires : tie.Need-unchanged-requires
 unchanged-requires c κs = search needs
@@ -37,7 +38,8 @@ returns c =
     let P = c .before in
     let R = P .before .before in
     let J = R .before .before .before in
-    c .unchanged .ensures ∙ adds-refused (J .before .before .before .args .c) _ _ _ _ (sym (R .verdict .given .1) ∙ J .judge-page .ensures) (P .refused-page .ensures)
+    promised-same _ _ _ _ _ (c .unchanged .ensures .0) (c .unchanged .ensures .1)
+    (adds-refused (J .before .before .before .args .c) _ _ _ (P .refused-page .result) (sym (R .verdict .given .1) ∙ J .judge-page .ensures) (P .refused-page .ensures))
 
 enum-told : tie.Need-enum-told
 enum-told c = search needs
@@ -46,7 +48,7 @@ take-in-requires : tie.Need-take-in-requires
 take-in-requires c κs = let S = fine-at c in (S .fits, S .least)
 
 returns-2 : tie.Need-returns-2
-returns-2 c = c .take-in .ensures ∙ adds-taken _ _ (fine-at (c .before))
+returns-2 c = rw (← adds-taken _ _ (fine-at (c .before))) (c .take-in .ensures)
 
 pub add-bytes-spec : {M : Type 1} → statement M
 add-bytes-spec =

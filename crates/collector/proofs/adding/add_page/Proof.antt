@@ -1,7 +1,7 @@
 -- `collector::adding::add_page` meets its contract: a walk of its MIR, by hand. The borrow is opened, the collector is copied out of it and passed to `add`,
 -- the collector that `add` returned is stored over it, and the borrow is closed there. All that the proof knows of `add` is that it meets its contract.
 -- Assumes nothing.
-use mathlib.Core.Path.{_≡_, refl, ap}
+use mathlib.Core.Path.{refl, ap}
 use Prim.Native.Nat.{ℕ, _<_, _^_}
 use mathlib.Core.List.{[], _∷_, List}
 use lib.ListN.{length}
@@ -43,6 +43,7 @@ use denote.Triple.Walked.{says, Stays, stay-ref, stay-none, stay-none-slice, wal
 use denote.Exit.{yes}
 use denote.Signature.{plain}
 use Rattle.collector.specs.Keeping.{addedCall}
+use Rattle.collector.specs.Promise.{Promised}
 use Rattle.collector.specs.declared.adding.Answer.{Answer}
 use Rattle.collector.specs.declared.store.Collector.{Collector}
 use Rattle.collector.specs.declared.adding.Adding.{Adding}
@@ -88,8 +89,9 @@ module _ {M : Type 1} (𝓤 : URA M) (H : Heap 𝓤) (A : Atoms 𝓤) (W : Given
   abbrev vals : List Val × (List Val × (List Val × (List Val × Unit {0})))
   vals = (vptr b o ∷ [], (sv ∷ [], (vint w64 v ∷ [], (vint w64 n ∷ [], tt))))
 
-  abbrev found : Adding
-  found = addedCall h (now s) v n
+  -- what is promised
+  abbrev Met : Adding → Type 0
+  Met r = Promised (addedCall h (now s) v n) (r .answer) (r .collector)
 
   abbrev Post : Val → SProp 𝓤
   Post = walkOf 𝓤 H A add-page.ended stayed (add-page.clauses 𝓤 H A at-mem run) .post (((κ, (κ′, tt)), (q, (q′, tt)), tt, x, vals), tt)
@@ -114,14 +116,14 @@ module _ {M : Type 1} (𝓤 : URA M) (H : Heap 𝓤) (A : Atoms 𝓤) (W : Given
       move ! (0 ∷ 2 ∷ []) $ fjoin ! $ move ! (3 ∷ 0 ∷ []) $ fjoin ! $ move ! (2 ∷ 0 ∷ []) $
       use2 W (raw (Add 𝓤 H A at-mem run .pre to)) (qed W ((‵ (flft κ′ q′) ⊛ ‵ ftrue) ∷ ‵ (fsep (T.the-row .own h (machC h ∷ [])) (fsep Own (fsep OwnStart (fsep OwnLen ftrue)))) ∷ []) ∵ join ! $ frame ! $ done !) $ frame ! $ done !
 
-  said : (r : Adding) → ent 𝓤 (ensured 𝓤 H A add.ended (add.clauses 𝓤 H A at-mem run) (κ′, tt) (h, (s, (v, (n, tt)))) tt r) (fact 𝓤 (r ≡ found))
-  said r = exE 𝓤 _ (λ ws. snd∗ 𝓤 (sem 𝓤 H A (lasts add.ended (κ′, tt) (h, (s, (v, (n, tt)))) ws)) (fact 𝓤 (r ≡ found)))
+  said : (r : Adding) → ent 𝓤 (ensured 𝓤 H A add.ended (add.clauses 𝓤 H A at-mem run) (κ′, tt) (h, (s, (v, (n, tt)))) tt r) (fact 𝓤 (Met r))
+  said r = exE 𝓤 _ (λ ws. snd∗ 𝓤 (sem 𝓤 H A (lasts add.ended (κ′, tt) (h, (s, (v, (n, tt)))) ws)) (fact 𝓤 (Met r)))
 
-  exits : (r : Adding) → r ≡ found → Is N.the-row (r .answer) (machN (r .answer)) → ent 𝓤 (⋆ 𝓤 H A (‵ (fobs γ (T.the-row .coded .code (r .collector))) ∷ ‵ (fbor κ (Body (mem T.the-row) b o γ)) ∷ ‵ (flft κ q) ∷ (‵ (flft κ′ q′) ⊛ ‵ ftrue) ∷ ‵ Own ∷ [])) (Post (only (machN (r .answer))))
+  exits : (r : Adding) → Met r → Is N.the-row (r .answer) (machN (r .answer)) → ent 𝓤 (⋆ 𝓤 H A (‵ (fobs γ (T.the-row .coded .code (r .collector))) ∷ ‵ (fbor κ (Body (mem T.the-row) b o γ)) ∷ ‵ (flft κ q) ∷ (‵ (flft κ′ q′) ⊛ ‵ ftrue) ∷ ‵ Own ∷ [])) (Post (only (machN (r .answer))))
   exits r e is =
       qed W (‵ (fobs γ (T.the-row .coded .code (r .collector))) ∷ ‵ (fbor κ (Body (mem T.the-row) b o γ)) ∷ ‵ (flft κ q) ∷ (‵ (flft κ′ q′) ⊛ ‵ ftrue) ∷ ‵ Own ∷ []) ∵
       suffices ! _ (ends-at 𝓤 H A add-page.ended stayed (add-page.clauses 𝓤 H A at-mem run) W (((κ, (κ′, tt)), (q, (q′, tt)), tt, x, vals), tt) (only (machN (r .answer))) (r .answer) (r .collector, (tt, (tt, (tt, tt)))) (tt, (tt, (tt, (tt, tt))))) $
-      says ! (ap (λ (t : Adding). t .answer) e, ap (λ (t : Adding). t .collector) e) $
+      says ! e $
       move ! (2 ∷ 3 ∷ []) $ join ! $ frame ! $ feqI ! (List Val) (vptr b o ∷ []) (vptr b o ∷ []) refl $ fjoin3 ! $
       nothing ! $ owned ! usize (Is usize) (uint-makes 𝓤 H A W w64) n _ (refl, n-fits) $ fjoin ! $ owned ! usize (Is usize) (uint-makes 𝓤 H A W w64) v _ (refl, v-fits) $ fjoin ! $ move ! (2 ∷ 0 ∷ []) $ fjoin ! $ move ! (1 ∷ 0 ∷ []) $ fjoin ! $ frame ! $
       owned ! N.the-row (Is N.the-row) (EL.makes N.the-type N′.the-plain 𝓤 H A) (r .answer) _ is $ done !
@@ -141,7 +143,7 @@ module _ {M : Type 1} (𝓤 : URA M) (H : Heap 𝓤) (A : Atoms 𝓤) (W : Given
         move ! (5 ∷ 1 ∷ 6 ∷ []) $ use3 W (raw (Add 𝓤 H A at-mem run .pre to) ⊛ ‵ Own) goes $ split ! $
         calls-at ! fm (Add 𝓤 H A at-mem run) known to (and-then ! (load ! (from ! (stop !)) (look ! 6 refl)) (and-then ! (load ! (from ! (stop !)) (look ! 14 refl)) (and-then ! (load ! (from ! (stop !)) (look ! 12 refl)) (and-then ! (load ! (from ! (stop !)) (look ! 10 refl)) (no-more !))))) (λ w.
         use1 W (later (some (λ (r : Adding). ((‵ (flft κ′ q′) ⊛ ‵ ftrue) ⊛ ‵ (D.the-row .own r (w ∷ []))) ⊛ raw (ensured 𝓤 H A add.ended (add.clauses 𝓤 H A at-mem run) (κ′, tt) (h, (s, (v, (n, tt)))) tt r)))) (id⊢ 𝓤 _) $ await ! tt $ pick ! (λ r.
-        split ! $ move ! (1 ∷ []) $ use1 W (raw (fact 𝓤 (r ≡ found))) (said r) $ heard ! (r ≡ found) (λ e. split ! $ move ! (1 ∷ []) $
+        split ! $ move ! (1 ∷ []) $ use1 W (raw (fact 𝓤 (Met r))) (said r) $ heard ! (Met r) (λ e. split ! $ move ! (1 ∷ []) $
         -- [what the Adding owns; buffer's token; what buffer owns; the cell; the open borrow; obs; auth; _6; …; room for _5; …; _4; …; _3; …; _2; …; _1; …; room for _0; …]
         peeks ! D.the-row (Is D.the-row) (shows 𝓤 H A D.the-row) r (w ∷ []) (λ is.
         land ! (from ! (stop !)) (init ! 9 refl (LL.lawful D.the-type D′.the-laws 𝓤 H A W .typed r _ is .0)) $

@@ -10,9 +10,7 @@ use Rattle.paper.specs.Lists.{same}
 use Rattle.markup.specs.Walk.{tagsAt}
 use Rattle.sheet.specs.Content.{contentOf}
 use Rattle.collector.specs.Keeping.{here, kept, agreesFirst}
-use Rattle.collector.specs.declared.store.Collector.{Collector}
-use Rattle.collector.specs.declared.adding.Answer.the-variants.{Added}
-use Rattle.collector.proofs.KeepLaws.{Place, place, told-missing, same-kept, takes-other, takes-same, takes-second, takes-new, keeps}
+use Rattle.collector.proofs.KeepLaws.{Place, place, told-missing, same-kept, promised-same, takes-other, takes-same, takes-second, takes-new, keeps}
 use borrow.Author.Needs.{needs}
 use Rattle.collector.proofs.adding.take_in.Statement.{statement}
 use Rattle.collector.proofs.adding.take_in.Tie as tie
@@ -62,7 +60,7 @@ unchanged-requires c κs = search needs
 returns : tie.Need-returns
 returns c =
     let A = c .before .before in
-    c .unchanged .ensures ∙ takes-other (start-of A .args .c) _ _ (sym (A .agrees-first .ensures) ∙ not-true _ (c .before .if1 .taken))
+    promised-same _ _ _ _ _ (c .unchanged .ensures .0) (c .unchanged .ensures .1) (takes-other (start-of A .args .c) _ _ (sym (A .agrees-first .ensures) ∙ not-true _ (c .before .if1 .taken)))
 
 slice-aggregate-number-of : tie.Need-slice-aggregate-number-of
 slice-aggregate-number-of c = search needs
@@ -107,7 +105,7 @@ returns-2 c =
     let S = c .before .before in
     let P = S .before .before .before .before .before in
     let e = same-at S in
-    c .unchanged2 .ensures ∙ takes-same (start-of (passed P .before) .args .c) _ _ (alike-at (passed P)) (e .0) (e .1 ∙ c .before .if2 .taken)
+    promised-same _ _ _ _ _ (c .unchanged2 .ensures .0) (c .unchanged2 .ensures .1) (takes-same (start-of (passed P .before) .args .c) _ _ (alike-at (passed P)) (e .0) (e .1 ∙ c .before .if2 .taken))
 
 unchanged-requires-3 : tie.Need-unchanged-requires-3
 unchanged-requires-3 c κs = search needs
@@ -117,7 +115,7 @@ returns-3 c =
     let S = c .before .before in
     let P = S .before .before .before .before .before in
     let e = same-at S in
-    c .unchanged3 .ensures ∙ takes-second (start-of (passed P .before) .args .c) _ _ (alike-at (passed P)) (e .0) (e .1 ∙ c .before .if2 .left)
+    promised-same _ _ _ _ _ (c .unchanged3 .ensures .0) (c .unchanged3 .ensures .1) (takes-second (start-of (passed P .before) .args .c) _ _ (alike-at (passed P)) (e .0) (e .1 ∙ c .before .if2 .left))
 
 enum-told : tie.Need-enum-told
 enum-told c = search needs
@@ -159,7 +157,8 @@ returns-4 c =
     let P = N .before .before .before in
     let a = start-of (passed P .before) .args in
     let e : here (a .c .lens) (contentOf (tagsAt (now (a .page)) 0) .no) ≡ false = ap (here (a .c .lens)) (sym (number-at P)) ∙ told-missing _ _ _ (sym (N .before .enum-told .given .1) ∙ P .page-at .ensures) in
-    ap (λ (d : Collector). record { answer = Added; collector = d }) (keeps (a .c) (now (a .page)) (contentOf (tagsAt (now (a .page)) 0)) _ _ _ _ (number-at P) (P .before .before .count-said .ensures) (N .first-with .ensures) (Y .lay .ensures .1)) ∙ takes-new (a .c) (now (a .page)) (contentOf (tagsAt (now (a .page)) 0)) (alike-at (passed P)) e
+    takes-new (a .c) (now (a .page)) (contentOf (tagsAt (now (a .page)) 0)) (alike-at (passed P)) e _
+    (keeps (a .c) (now (a .page)) (contentOf (tagsAt (now (a .page)) 0)) _ _ _ _ (number-at P) (P .before .before .count-said .ensures) (N .first-with .ensures) (Y .lay .ensures .1))
 
 pub take-in-spec : {M : Type 1} → statement M
 take-in-spec =

@@ -9,9 +9,9 @@ use borrow.Author.Needs.{needs}
 use Rattle.paper.specs.Reading.{judgeAll}
 use Rattle.paper.specs.Calls.{pagesAt}
 use Rattle.paper.proofs.CallLaws.{Inside, inside-true, pages-count}
-use Rattle.reader.specs.Promise.{judgedAs}
+use Rattle.reader.specs.Answers.{toldOf}
 use Rattle.reader.proofs.CallFacts.{pages-from}
-use Rattle.reader.proofs.ReadingLaws.{stops, goes-on, none-refused}
+use Rattle.reader.proofs.ReadingLaws.{page-refused, stops, goes-on, none-refused}
 use Rattle.reader.proofs.reading.judge_all.Statement.{statement}
 use Rattle.reader.proofs.reading.judge_all.Tie as tie
 
@@ -23,7 +23,7 @@ record Held (b ss ns scratch : List ℕ) (n i : ℕ) : Type 0 where
   pub inside : Inside b ss ns
   pub pages : length (pagesAt b ss ns) ≡ length ss
   pub room : length scratch ≡ 1400
-  pub left : judgedAs (judgeAll 1 (pagesAt b ss ns)) ≡ judgedAs (judgeAll (i + 1) (drop i (pagesAt b ss ns)))
+  pub left : toldOf (judgeAll 1 (pagesAt b ss ns)) ≡ toldOf (judgeAll (i + 1) (drop i (pagesAt b ss ns)))
 
 -- the page that is lent is the next one
 turn : (b ss ns scratch : List ℕ) (n i : ℕ) → Held b ss ns scratch n i → i < n
@@ -106,7 +106,7 @@ cast-refused-page-3 : tie.Need-cast-refused-page-3 Inv-loop μ-loop
 cast-refused-page-3 c = search needs
 
 refused-page-requires : tie.Need-refused-page-requires Inv-loop μ-loop
-refused-page-requires c κs = search needs
+refused-page-requires c κs = let N = c .before in page-refused _ _ _ (sym (N .verdict .given .1) ∙ N .before .before .before .judge-page .ensures)
 
 returns : tie.Need-returns Inv-loop μ-loop
 returns c =

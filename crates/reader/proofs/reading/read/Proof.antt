@@ -89,7 +89,7 @@ made-at c = sym (c .before .call-fits .ensures) ∙ not-false _ (c .if2 .left)
 ready-at : (c : tie.Else3) → Ready (start₃ c)
 ready-at c =
     let J = c .before .before in
-    joins _ _ _ _ _ (roomy-at (J .before .before .before)) (made-at (J .before)) _ (J .judge-all .ensures) (sym (c .before .refusal-number .ensures) ∙ c .if3 .left)
+    joins _ _ _ _ _ (roomy-at (J .before .before .before)) (made-at (J .before)) (J .judge-all .result) (J .judge-all .ensures) (sym (c .before .refusal-number .ensures) ∙ c .if3 .left)
 
 -- the heads are alike
 alike-at : (c : tie.Else4) → 0 ≡ firstOther (said (start₄ c))
@@ -171,7 +171,7 @@ returns-3 : tie.Need-returns-3
 returns-3 c =
     let s = start₂ (c .before .before .before .before) in
     let J = c .before .before .before in
-    let (n, k, i, e, a) = refused-as (pages s) _ (J .judge-all .ensures) (λ z. c .before .if3 .taken (c .before .before .refusal-number .ensures ∙ z)) in
+    let (n, k, i, e, a) = refused-as (pages s) (J .judge-all .result) (J .judge-all .ensures) (λ z. c .before .if3 .taken (c .before .before .refusal-number .ensures ∙ z)) in
     refuse s n k i (is-judged (now (s .args .rows)) (now (s .args .text)) _ _ _ (roomy-at (J .before .before .before)) (made-at (J .before)) ∙ e) _ a (c .empty3 .ensures)
 
 heads-requires : tie.Need-heads-requires
