@@ -1,7 +1,7 @@
 -- KeepLaws: which pages are here, what stands at a number's place, and what a page without faults gives.
 -- Assumes nothing.
-use mathlib.Core.Path.{_≡_, refl, ap, sym, _∙_}
-use mathlib.Core.Bool.{Bool, true, false, _&&_}
+use mathlib.Core.Path.{_≡_, refl, ap, sym, _∙_, subst}
+use mathlib.Core.Bool.{Bool, true, false, not, _&&_}
 use mathlib.Core.List.{List, [], _∷_}
 use Prim.Native.Nat.{ℕ, _+_, _-_, _*_, _≤_}
 use native.Mathlib.Omega.{arith}
@@ -13,6 +13,7 @@ use Rattle.paper.specs.Lists.{if, same}
 use Rattle.paper.specs.Plan.{sameHead}
 use Rattle.paper.specs.Judging.{Sheet, Judged, refused, sheet, judge}
 use Rattle.paper.specs.Reading.{numbers, sheets, judgeAll}
+use Rattle.paper.specs.Collecting.{Added, added, alreadyHere, refusedWith}
 use Rattle.paper.proofs.Small.{both, unequal, same-comm}
 use Rattle.paper.proofs.PageNumbers.{numbered}
 use Rattle.markup.specs.Laid.{laid}
@@ -25,8 +26,8 @@ use Rattle.reader.specs.Answers as Reader
 use Rattle.reader.specs.declared.answer.Answer as Read
 use Rattle.reader.specs.declared.answer.Answer.the-variants.{NoRoom, OtherHead, NumberTwice}
 use Rattle.reader.proofs.ReadingLaws.{all-said, page-refused}
-use Rattle.collector.specs.Keeping.{startOf, lenOf, here, pageAt, kept, agreesWith, agreesFirst, firstWith, Answered, keptWith, takenIn, addedAs, addedTo, addedCall}
-use Rattle.collector.specs.Answers.{pageOf}
+use Rattle.collector.specs.Keeping.{startOf, lenOf, here, pageAt, kept, agreesWith, agreesFirst, firstWith, Answered, unchanged, keptWith, takenIn, addedAs, addedTo, addedCall}
+use Rattle.collector.specs.Answers.{pageOf, Tells}
 use Rattle.collector.specs.Promise.{Promised}
 use Rattle.collector.specs.declared.store.Collector.{Collector}
 use Rattle.collector.specs.declared.adding.Answer.{Answer}
@@ -206,3 +207,45 @@ adds-taken c w S = rw (S .judged)
 pub outside : (c : Collector) (b : List ℕ) (start len : ℕ) → leb (start + len) (length b) ≡ false → Promised (addedCall c b start len) (Told.Refused NoRoom) c
 unfolding addedCall
 outside c b start len e = rw e (record { answer-is = (NoRoom, refl, refl); collector-is = refl })
+
+-- ---- a page that is not added
+
+-- leaves the collector as it was
+abbrev Stays : Collector → Answered → Type 0
+Stays c x = (x .answer ≡ added → ⊥) → x .after ≡ c
+
+taken-stays : (c : Collector) (w : List ℕ) (s : Sheet) → Stays c (takenIn c w s)
+unfolding takenIn
+taken-stays c w s = at (agreesFirst (c .pages) (c .lens) (c .first) s) (here (c .lens) (s .no)) (same w (kept (c .pages) (c .lens) (s .no)))
+  where
+    at : (x y z : Bool) → Stays c (if (not x) (unchanged (refusedWith 9 0) c) (if y (if z (unchanged alreadyHere c) (unchanged (refusedWith 10 0) c)) (record { answer = added; after = keptWith c w s })))
+    at false y z h = refl
+    at true true true h = refl
+    at true true false h = refl
+    at true false z h = absurd (h refl)
+
+bytes-stay : (c : Collector) (w : List ℕ) → Stays c (addedTo c w)
+unfolding addedTo
+bytes-stay c w = at (judge w)
+  where
+    at : (j : Judged) → Stays c (addedAs c w j)
+    at (refused n i) h = refl
+    at (sheet s) h = taken-stays c w s h
+
+call-stays : (c : Collector) (b : List ℕ) (start len : ℕ) → Stays c (addedCall c b start len)
+unfolding addedCall
+call-stays c b start len = at (leb (start + len) (length b))
+  where
+    at : (x : Bool) → Stays c (if x (addedTo c (take len (drop start b))) (unchanged (refusedWith 1 0) c))
+    at true h = bytes-stay c (take len (drop start b)) h
+    at false h = refl
+
+-- so it is of any result that meets the promise
+stays : (c : Collector) (x : Answered) → Stays c x → (a : Answer) (after : Collector) → Promised x a after → (a ≡ Told.Added → ⊥) → after ≡ c
+stays c x S a after P h = P .collector-is ∙ S (λ e. h (subst (λ (y : Added). Tells y a) e (P .answer-is)))
+
+pub add-stays : (c : Collector) (b : List ℕ) (start len : ℕ) (a : Answer) (after : Collector) → Promised (addedCall c b start len) a after → (a ≡ Told.Added → ⊥) → after ≡ c
+add-stays c b start len = stays c (addedCall c b start len) (call-stays c b start len)
+
+pub add-bytes-stays : (c : Collector) (w : List ℕ) (a : Answer) (after : Collector) → Promised (addedTo c w) a after → (a ≡ Told.Added → ⊥) → after ≡ c
+add-bytes-stays c w = stays c (addedTo c w) (bytes-stay c w)

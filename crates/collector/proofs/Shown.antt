@@ -33,7 +33,7 @@ use Rattle.collector.specs.Keeping as Code
 use Rattle.collector.specs.Keeping.{startOf, lenOf, kept, agreesFirst, firstWith, Answered, keptWith, takenIn, addedTo, addedCall, countOf, missing, inOrder, pagesOf, readOf, collected}
 use Rattle.collector.specs.Answers.{Tells}
 use Rattle.collector.specs.Promise.{Promised}
-use Rattle.collector.specs.Shows.{Shows, countIn, firstIn, addedAll}
+use Rattle.collector.specs.Shows.{Shows, countIn, firstIn, Leads, addedAll}
 use Rattle.collector.specs.declared.store.Collector.{Collector}
 use Rattle.collector.specs.declared.adding.Answer.{Answer}
 use Rattle.collector.proofs.KeepLaws.{Kept, is-kept, kept-here, here-by, slice-part}
@@ -293,10 +293,29 @@ module _ (c : Collector) (k : Paper.Collector) (R : Reached k) (S : Shows c k) w
 
 -- ---- whatever the order
 
+-- what `add` and `add_page` give for a page that lies in the buffer, `add_bytes` gives for its bytes
+pub as-bytes : (c : Collector) (b : List ℕ) (start len : ℕ) (a : Answer) (after : Collector) → start + len ≤ length b → Promised (addedCall c b start len) a after → Promised (addedTo c (take len (drop start b))) a after
+unfolding addedCall
+as-bytes c b start len a after h P =
+    subst (λ (t : Bool). Promised (if t (addedTo c (take len (drop start b))) (Code.unchanged (Paper.refusedWith 1 0) c)) a after) (le-leb (start + len) (length b) h) P
+
+-- pages added one after another lead to one collector
+pub led : (c : Collector) (ws : List (List ℕ)) (d : Collector) → Leads c ws d → d ≡ addedAll c ws
+led c [] d e = e
+led c (w ∷ ws) d (a, e, P, L) = subst (λ (x : Collector). d ≡ addedAll x ws) (P .collector-is) (led e ws d L)
+
 -- pages one after another
 pub shows-all : (c : Collector) (k : Paper.Collector) → Reached k → Shows c k → (ws : List (List ℕ)) → Shows (addedAll c ws) (addAll k ws)
 shows-all c k R S [] = S
 shows-all c k R S (w ∷ ws) = shows-all (addedTo c w .after) (Paper.add k w .after) (more w R) (shows-added c k R S w .shown) ws
+
+-- the empty collector, given pages
+module _ (g : List (List ℕ)) (d : Collector) (L : Leads Code.emptyCollector g d) where
+  -- reads as document 01's collector that was given the same
+  pub reads-led : readOf d ≡ readCollected (addAll Paper.cleared g)
+  reads-led =
+      ap readOf (led Code.emptyCollector g d L)
+      ∙ shows-read (addedAll Code.emptyCollector g) (addAll Paper.cleared g) (reached-all empty g) (shows-all Code.emptyCollector Paper.cleared empty shows-empty g)
 
 -- pages that are accepted at once, given to an empty collector in any order: none is missing, and it reads as their plan
 pub any-order : (f g : List (List ℕ)) (p : Plan) → Perm f g → Said.read f ≡ Said.plan p → (missing (addedAll Code.emptyCollector g) ≡ []) × (readOf (addedAll Code.emptyCollector g) ≡ Said.plan p)

@@ -17,7 +17,7 @@ use Rattle.paper.specs.Writing as Spelled
 use Rattle.paper.specs.Writing.{Written, tooLong, written, sound, fresh}
 use Rattle.paper.specs.Cuts.{Cut, Cut≤}
 use Rattle.paper.specs.Layout.{textOf}
-use Rattle.paper.specs.Calls.{rowRoom, textRoom, inside, pagesAt, readAt, readCall, freshCall}
+use Rattle.paper.specs.Calls.{rowRoom, textRoom, roomy, inside, pagesAt, readAt, readCall, freshCall}
 use Rattle.paper.proofs.Small.{and-intro}
 use Rattle.paper.proofs.AnyOrder as Orders
 use Rattle.paper.proofs.AnyOrder.{Perm}
@@ -52,12 +52,15 @@ Accepted r = (r .number ≡ 0) ⊎ (r .number ≡ 14)
 
 -- ---- laws on reading
 
+pub roomy-enough : (rows text : List ℕ) → Enough rows text → roomy (rowsLent (length rows)) (length text) ≡ true
+roomy-enough rows text (h, g) =
+    let lent : 256 ≤ length rows / 48 = omega arith in
+    and-intro (leb rowRoom (rowsLent (length rows))) (leb textRoom (length text)) (le-leb rowRoom (rowsLent (length rows)) lent) (le-leb textRoom (length text) g)
+
 -- with room enough the pages decide
 read-call : (rows text b ss ns : List ℕ) → Enough rows text → Reads.answered rows text b ss ns ≡ readAt true b ss ns
 unfolding readCall
-read-call rows text b ss ns (h, g) =
-    let lent : 256 ≤ length rows / 48 = omega arith in
-    ap (λ (x : Bool). readAt x b ss ns) (and-intro (leb rowRoom (rowsLent (length rows))) (leb textRoom (length text)) (le-leb rowRoom (rowsLent (length rows)) lent) (le-leb textRoom (length text) g))
+read-call rows text b ss ns h = ap (λ (x : Bool). readAt x b ss ns) (roomy-enough rows text h)
 
 -- so they decide on what `read` gives
 pub took-as : (rows text b ss ns : List ℕ) (q : Reading) (rows′ text′ : List ℕ) → Enough rows text → Took rows text b ss ns q rows′ text′

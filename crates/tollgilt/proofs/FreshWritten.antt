@@ -68,34 +68,33 @@ holds-written p f out w out′ e P =
     let Q = laid-as (written f) out w out′ (told w .number) (told w .place) P refl refl in
     record { sheets = f; is-fresh = e; result-is = Q .result-is; room-is = Q .room-is }
 
--- what reading gives for a call with room enough
-module _ (out b ss ns : List ℕ) (h : 12600 ≤ length out) (rows text : List ℕ) (q : Reading) (R : Reads.Promised (Reads.answered rows₀ text₀ b ss ns) rows₀ text₀ q rows text) where
-  abbrev called : Paper.Answer
-  called = freshCall (length out) b ss ns
+-- `read` within a call, with rooms of its own, reads as the call is answered
+pub read-within : (out b ss ns : List ℕ) → 12600 ≤ length out → (rows text : List ℕ) (q : Reading) → Reads.Promised (Reads.answered rows₀ text₀ b ss ns) rows₀ text₀ q rows text
+    → Reads.Promised (freshCall (length out) b ss ns) rows₀ text₀ q rows text
+read-within out b ss ns h rows text q R = read-here b ss ns rows text q (freshCall (length out) b ss ns) (roomy-call out b ss ns h) R
 
-  read-as : Reads.Promised called rows₀ text₀ q rows text
-  read-as = read-here b ss ns rows text q called (roomy-call out b ss ns h) R
-
+-- what reading gives where it answers as the call is answered, whatever rooms it was lent
+module _ (out b ss ns : List ℕ) (h : 12600 ≤ length out) (rows text : List ℕ) (q : Reading) (rows′ text′ : List ℕ) (R : Reads.Promised (freshCall (length out) b ss ns) rows text q rows′ text′) where
   -- reading refused the pages
   pub not-written : (r : Fresh) (n k i : ℕ) → (n ≡ 0 → ⊥) → n ≡ Reader.numbersOf (q .answer) .number → k ≡ Reader.numbersOf (q .answer) .page → i ≡ Reader.numbersOf (q .answer) .place
       → r ≡ refusedWith n k i → Promised (answered out b ss ns) out r out
-  not-written r n k i z u v w e = at called read-as
+  not-written r n k i z u v w e = at (freshCall (length out) b ss ns) R
     where
-      at : (a : Paper.Answer) → Reads.Promised a rows₀ text₀ q rows text → Promised (afresh a) out r out
+      at : (a : Paper.Answer) → Reads.Promised a rows text q rows′ text′ → Promised (afresh a) out r out
       at (Paper.refusal m j l) T = record { result-is = e ∙ rw (u, v, w) (ap (λ (t : Paper.Numbers). refusedWith (t .number) (t .page) (t .place)) (T .answer-is)); room-is = refl }
       at (Paper.plan p) T = absurd (z (u ∙ ap (λ (c : Code.Answer). Reader.numbersOf c .number) (T .answer-is)))
 
   -- reading gave a plan: writing its numbers is writing that plan
-  pub plan-laid : Reader.numbersOf (q .answer) .number ≡ 0 → (w : Writing) (out′ : List ℕ) (n i : ℕ) → Writes.Promised (Writes.answered out (q .plan) rows text) out w out′
+  pub plan-laid : Reader.numbersOf (q .answer) .number ≡ 0 → (w : Writing) (out′ : List ℕ) (n i : ℕ) → Writes.Promised (Writes.answered out (q .plan) rows′ text′) out w out′
       → n ≡ Writer.numbersOf (w .answer) .number → i ≡ Writer.numbersOf (w .answer) .place → Promised (answered out b ss ns) out (made n i w) out′
   unfolding freshCall
-  plan-laid z w out′ n i P u v = at called refl (call-numbered (leb pageRoom (length out)) b ss ns) read-as
+  plan-laid z w out′ n i P u v = at (freshCall (length out) b ss ns) refl (call-numbered (leb pageRoom (length out)) b ss ns) R
     where
-      at : (a : Paper.Answer) → called ≡ a → Numbered a → Reads.Promised a rows₀ text₀ q rows text → Promised (afresh a) out (made n i w) out′
+      at : (a : Paper.Answer) → freshCall (length out) b ss ns ≡ a → Numbered a → Reads.Promised a rows text q rows′ text′ → Promised (afresh a) out (made n i w) out′
       at (Paper.refusal m k j) e g T = let y : Reader.numbersOf (q .answer) .number ≡ m = ap (λ (t : Paper.Numbers). t .number) (T .answer-is) in absurd (omega arith)
       at (Paper.plan p) e g T =
-          let same : Writes.answered out (q .plan) rows text ≡ fresh p
-          = rw (T .plan-is, T .rows-are, T .text-is) (read-written (pagesAt b ss ns) p (drop (0 + length (textOf p)) text₀) (drop (0 + length (planRows p)) rows₀) out (plan-read out b ss ns p e) h) in
+          let same : Writes.answered out (q .plan) rows′ text′ ≡ fresh p
+          = rw (T .plan-is, T .rows-are, T .text-is) (read-written (pagesAt b ss ns) p (drop (0 + length (textOf p)) text) (drop (0 + length (planRows p)) rows) out (plan-read out b ss ns p e) h) in
           laid-as (fresh p) out w out′ n i (subst (λ (x : Written). Writes.Promised x out w out′) same P) u v
 
 -- ---- the border

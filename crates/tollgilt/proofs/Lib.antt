@@ -1,7 +1,10 @@
--- What is asked of fresh pages, carried over to the code: of pages written afresh (Demands), and of an app's own plan (WriteDemands). That what is promised leaves no second
--- result (Unique); and the laws behind the listing of a call, its fresh pages, and what is printed for an input.
+-- What is asked of fresh pages, carried over to the code: of pages written afresh (Demands), and of an app's own plan (WriteDemands); that a refusal changes nothing
+-- (Unchanged); that pages collected one after another are written as those handed in at once (Collected); that what is promised leaves no second result (Unique); and the
+-- laws behind the listing of a call, its fresh pages, and what is printed for an input.
 pub mod Demands
 pub mod WriteDemands
+pub mod Unchanged
+pub mod Collected
 pub mod Unique
 pub mod ListLaws
 pub mod FreshLaws

@@ -6,7 +6,10 @@ use native.Mathlib.Omega.{arith}
 use lib.ListN.{length}
 use denote.Ref.{now}
 use borrow.Author.Needs.{needs}
-use Rattle.tollgilt.proofs.FreshWritten.{no-room, refuses, not-written, plan-laid}
+use Rattle.paper.specs.Calls.{freshCall}
+use Rattle.reader.specs.Promise as Reads
+use Rattle.tollgilt.proofs.ListLaws.{rows₀, text₀}
+use Rattle.tollgilt.proofs.FreshWritten.{no-room, refuses, read-within, not-written, plan-laid}
 use Rattle.tollgilt.proofs.fresh.fresh_pages.Statement.{statement}
 use Rattle.tollgilt.proofs.fresh.fresh_pages.Tie as tie
 
@@ -17,6 +20,10 @@ roomy c = omega (arith, c .if1 .left)
 -- where the call began
 abbrev start : tie.After-read → tie.Start
 start c = c .before .before .before .before .before .before .before .before
+
+-- what reading gives is the call's
+read-at : (c : tie.After-read) → let a = start c .args in Reads.Promised (freshCall (length (now (a .out))) (now (a .buffer)) (now (a .starts)) (now (a .lens))) rows₀ text₀ (c .read .result) (c .read .last .1 .1 .1 .0) (c .read .last .1 .1 .1 .1 .0)
+read-at c = read-within (now (start c .args .out)) _ _ _ (roomy (c .before .before .before)) _ _ (c .read .result) (c .read .ensures)
 
 refused-requires : tie.Need-refused-requires
 refused-requires c κs = search needs
@@ -55,7 +62,7 @@ returns-2 c =
     let T = K .before in
     let N = T .before in
     let R = N .before .before .before in
-    not-written (now (start R .args .out)) _ _ _ (roomy (R .before .before .before)) _ _ (R .read .result) (R .read .ensures) _ _ _ _ (T .if2 .taken) (N .refusal-number .ensures) (K .refusal-page .ensures) (P .refusal-place .ensures) (c .refused2 .ensures)
+    not-written (now (start R .args .out)) _ _ _ (roomy (R .before .before .before)) _ _ (R .read .result) _ _ (read-at R) _ _ _ _ (T .if2 .taken) (N .refusal-number .ensures) (K .refusal-page .ensures) (P .refusal-place .ensures) (c .refused2 .ensures)
 
 slice-aggregate-write : tie.Need-slice-aggregate-write
 slice-aggregate-write c = search needs
@@ -81,7 +88,7 @@ returns-3 c =
     let E = W .before .before .before .before .before in
     let N = E .before in
     let R = N .before .before .before in
-    plan-laid (now (start R .args .out)) _ _ _ (roomy (R .before .before .before)) _ _ (R .read .result) (R .read .ensures) (sym (N .refusal-number .ensures) ∙ E .if2 .left) (W .write .result) _ _ _ (W .write .ensures) (c .before .outcome-number .ensures) (c .outcome-place .ensures)
+    plan-laid (now (start R .args .out)) _ _ _ (roomy (R .before .before .before)) _ _ (R .read .result) _ _ (read-at R) (sym (N .refusal-number .ensures) ∙ E .if2 .left) (W .write .result) _ _ _ (W .write .ensures) (c .before .outcome-number .ensures) (c .outcome-place .ensures)
 
 pub fresh-pages-spec : {M : Type 1} → statement M
 fresh-pages-spec =

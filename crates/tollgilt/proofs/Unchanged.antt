@@ -1,0 +1,118 @@
+-- Unchanged: "A refusal changes no lent byte or row, and no collector." One statement for each operation, about any result that meets its promise: where the answer
+-- carries a refusal's number, what was lent for writing is as it was. A collector changes where a page is added and nowhere else, so "already here" leaves it too.
+-- `clear` and the empty collector refuse nothing. The missing numbers, the numbers of an answer and the cells are lent nothing for writing. The numbers `told` at the
+-- border are a part of the answer: every call sets them. What planlist and planfresh print of a refusal is three lines, so there it is a room too small that stays.
+-- Assumes nothing.
+use mathlib.Core.Path.{_≡_, refl, ap, _∙_}
+use mathlib.Core.List.{List}
+use Prim.Native.Nat.{ℕ, _<_}
+use lib.ListN.{length}
+use Rattle.paper.specs.Reading as Paper
+use Rattle.paper.specs.Reading.{Numbers}
+use Rattle.paper.specs.Writing.{Written, badCall, unsound, tooLong, written}
+use Rattle.plan.specs.declared.Plan.{Plan}
+use Rattle.reader.specs.Answers as Reader
+use Rattle.reader.specs.Promise as Reads
+use Rattle.reader.specs.declared.answer.Answer as Read
+use Rattle.reader.specs.declared.reading.Reading.{Reading}
+use Rattle.collector.specs.Keeping.{addedTo, addedCall, collected}
+use Rattle.collector.specs.Promise as Adds
+use Rattle.collector.specs.declared.store.Collector.{Collector}
+use Rattle.collector.specs.declared.adding.Adding.{Adding}
+use Rattle.collector.specs.declared.adding.Answer as Added
+use Rattle.collector.proofs.KeepLaws.{add-stays, add-bytes-stays}
+use Rattle.writer.specs.Answers as Writer
+use Rattle.writer.specs.Promise as Writes
+use Rattle.writer.specs.declared.answer.Outcome.{Outcome}
+use Rattle.writer.specs.declared.writing.Writing.{Writing}
+use Rattle.tollgilt.specs.Promise as Lists
+use Rattle.tollgilt.specs.Fresh as Fresh
+use Rattle.tollgilt.specs.declared.list.Listed.{Listed}
+use Rattle.tollgilt.specs.declared.fresh.Fresh as Pages
+use Rattle.tollgilt.proofs.InputLaws.{Prints, none-printed}
+use Rattle.tollgilt.proofs.FreshInput.{FreshPrints, none-freshly}
+use Rattle.tollgilt.proofs.Unique.{printed-once, fresh-printed-once}
+
+-- ---- reading
+
+rooms-stay : (a : Paper.Answer) (rows text : List ℕ) (r : Reading) (rows′ text′ : List ℕ) → Reads.Promised a rows text r rows′ text′ → (Reader.numbersOf (r .answer) .number ≡ 0 → ⊥)
+    → (rows′ ≡ rows) × (text′ ≡ text)
+rooms-stay (Paper.refusal n k i) rows text r rows′ text′ P h = (P .rows-are, P .text-is)
+rooms-stay (Paper.plan p) rows text r rows′ text′ P h = absurd (h (ap (λ (a : Read.Answer). Reader.numbersOf a .number) (P .answer-is)))
+
+-- `read`: no row and no byte of text
+pub read-unchanged : (rows text b ss ns : List ℕ) (r : Reading) (rows′ text′ : List ℕ) → Reads.Promised (Reads.answered rows text b ss ns) rows text r rows′ text′
+    → (Reader.numbersOf (r .answer) .number ≡ 0 → ⊥) → (rows′ ≡ rows) × (text′ ≡ text)
+read-unchanged rows text b ss ns = rooms-stay (Reads.answered rows text b ss ns) rows text
+
+-- the collector's `read`; the collector itself is handed in by value
+pub collected-unchanged : (c : Collector) (rows text : List ℕ) (r : Reading) (rows′ text′ : List ℕ) → Reads.Promised (collected rows text c) rows text r rows′ text′
+    → (Reader.numbersOf (r .answer) .number ≡ 0 → ⊥) → (rows′ ≡ rows) × (text′ ≡ text)
+collected-unchanged c rows text = rooms-stay (collected rows text c) rows text
+
+-- ---- collecting: every answer but `Added`
+
+-- `add`: the collector that is given back
+pub add-unchanged : (c : Collector) (b : List ℕ) (start len : ℕ) (r : Adding) → Adds.Promised (addedCall c b start len) (r .answer) (r .collector)
+    → (r .answer ≡ Added.the-variants.Added → ⊥) → r .collector ≡ c
+add-unchanged c b start len r = add-stays c b start len (r .answer) (r .collector)
+
+-- `add_bytes`: the same of any bytes
+pub add-bytes-unchanged : (c : Collector) (w : List ℕ) (r : Adding) → Adds.Promised (addedTo c w) (r .answer) (r .collector)
+    → (r .answer ≡ Added.the-variants.Added → ⊥) → r .collector ≡ c
+add-bytes-unchanged c w r = add-bytes-stays c w (r .answer) (r .collector)
+
+-- `add_page`: the collector that was lent
+pub add-page-unchanged : (c : Collector) (b : List ℕ) (start len : ℕ) (a : Added.Answer) (c′ : Collector) → Adds.Promised (addedCall c b start len) a c′
+    → (a ≡ Added.the-variants.Added → ⊥) → c′ ≡ c
+add-page-unchanged c b start len = add-stays c b start len
+
+-- ---- writing
+
+room-stays : (w : Written) (out : List ℕ) (r : Writing) (out′ : List ℕ) → Writes.Promised w out r out′ → (Writer.numbersOf (r .answer) .number ≡ 0 → ⊥) → out′ ≡ out
+room-stays badCall out r out′ P h = P .room-is
+room-stays (unsound i) out r out′ P h = P .room-is
+room-stays (tooLong i) out r out′ P h = P .room-is
+room-stays (written f) out r out′ P h = absurd (h (ap (λ (a : Outcome). Writer.numbersOf a .number) (P .answer-is)))
+
+-- `write`: no byte of the room for pages
+pub write-unchanged : (out : List ℕ) (p : Plan) (rows text : List ℕ) (r : Writing) (out′ : List ℕ) → Writes.Promised (Writes.answered out p rows text) out r out′
+    → (Writer.numbersOf (r .answer) .number ≡ 0 → ⊥) → out′ ≡ out
+write-unchanged out p rows text = room-stays (Writes.answered out p rows text) out
+
+-- ---- listing
+
+not-listed : (a : Paper.Answer) (out : List ℕ) → (Reader.told a .number ≡ 0 → ⊥) → Lists.roomAfter a out ≡ out
+not-listed (Paper.refusal n k i) out h = refl
+not-listed (Paper.plan p) out h = absurd (h refl)
+
+-- `list_pages`: no byte of the room for the listing
+pub list-pages-unchanged : (out b ss ns : List ℕ) (r : Listed) (out′ : List ℕ) → Lists.Promised (Lists.answered out b ss ns) out r out′
+    → (Reader.numbersOf (r .answer) .number ≡ 0 → ⊥) → out′ ≡ out
+list-pages-unchanged out b ss ns r out′ P h = P .room-is ∙ not-listed (Lists.answered out b ss ns) out (λ e. h (ap (λ (t : Numbers). t .number) (P .answer-is) ∙ e))
+
+-- `tollgilt_list`
+pub tollgilt-list-unchanged : (out b ss ns : List ℕ) (r : ℕ) (out′ told′ : List ℕ) → Lists.Handed (Lists.answered out b ss ns) out r out′ told′ → (r ≡ 0 → ⊥) → out′ ≡ out
+tollgilt-list-unchanged out b ss ns r out′ told′ P h = P .room-is ∙ not-listed (Lists.answered out b ss ns) out (λ e. h (P .number-is ∙ e))
+
+-- `list_input`: a room below 25,200 bytes
+pub list-input-unchanged : (out input : List ℕ) (r : ℕ) (out′ : List ℕ) → Prints out input out′ r → length out < 25200 → (r ≡ 0) × (out′ ≡ out)
+list-input-unchanged out input r out′ P h = printed-once out input out′ out r 0 P (none-printed out input h)
+
+-- ---- writing afresh
+
+not-fresh : (a : Fresh.Answer) (out : List ℕ) → (Fresh.given a .number ≡ 0 → ⊥) → Fresh.roomAfter a out ≡ out
+not-fresh (Fresh.refusal n k i) out h = refl
+not-fresh (Fresh.pages f) out h = absurd (h refl)
+
+-- `fresh_pages`: no byte of the room for pages
+pub fresh-pages-unchanged : (out b ss ns : List ℕ) (r : Pages.Fresh) (out′ : List ℕ) → Fresh.Promised (Fresh.answered out b ss ns) out r out′ → (r .number ≡ 0 → ⊥) → out′ ≡ out
+fresh-pages-unchanged out b ss ns r out′ P h = P .room-is ∙ not-fresh (Fresh.answered out b ss ns) out (λ e. h (ap (λ (t : Pages.Fresh). t .number) (P .result-is) ∙ e))
+
+-- `tollgilt_fresh`
+pub tollgilt-fresh-unchanged : (out b ss ns : List ℕ) (r : ℕ) (out′ told′ : List ℕ) → Fresh.Handed (Fresh.answered out b ss ns) out r out′ told′ → (r ≡ 0 → ⊥) → out′ ≡ out
+tollgilt-fresh-unchanged out b ss ns r out′ told′ P h = P .room-is ∙ not-fresh (Fresh.answered out b ss ns) out (λ e. h (P .number-is ∙ e))
+
+-- `fresh_input`: a room below 12,608 bytes
+pub fresh-input-unchanged : (out input : List ℕ) (r : ℕ) (out′ : List ℕ) → FreshPrints out input out′ r → length out < 12608 → (r ≡ 0) × (out′ ≡ out)
+fresh-input-unchanged out input r out′ P h = fresh-printed-once out input out′ out r 0 P (none-freshly out input h)
