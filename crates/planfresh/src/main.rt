@@ -1,5 +1,7 @@
 // Planfresh: reads the pages of a medication plan from standard input, separated by one zero byte, at most 12,609 bytes, and prints the fresh pages of their
-// plan, separated likewise, or the three lines of a refusal. It always ends normally.
+// plan, separated likewise, or the three lines of a refusal. Its own code ends normally on every input. It has no exit status of its own, as no program in
+// Rattle has: a read that fails is the end of its input, output that cannot be written is lost, and into a pipe that nobody reads the system ends it by a
+// signal. tools/program runs it, and gives a status above 0 where its output is not written.
 use libc::STDIN_FILENO;
 use libc::STDOUT_FILENO;
 use tollgilt::input::fresh_input;
