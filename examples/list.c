@@ -1,10 +1,11 @@
-/* list SHEET...: joins the sheets named and prints the listing of their plan, or why they are no plan. From the root of the repository:
+/* list SHEET...: joins the sheets named and prints the listing of their plan, or why they are no plan. From a new clone to its output, with the Rattle kit and
+ * a C compiler installed, in the folder of the clone; the first command proves the library, which takes some minutes once:
  *
- *     tools/archive tollgilt
- *     cc -Iinclude examples/list.c target/native/x86_64-unknown-linux-gnu/libtollgilt.a -o list
- *     ./list examples/sheet-1.xml examples/sheet-2.xml examples/sheet-3.xml
+ *     tools/archives
+ *     cc -Iinclude examples/list.c target/native/$(uname -m)-unknown-linux-gnu/libtollgilt.a -o target/list
+ *     target/list examples/sheet-1.xml examples/sheet-2.xml examples/sheet-3.xml
  *
- * Exit status: 0 a listing, 1 a refusal, 2 a sheet that cannot be read. */
+ * Exit status: 0 a listing, 1 a refusal, 2 a sheet that cannot be read or a listing that cannot be written. */
 #include <stdio.h>
 #include <stdlib.h>
 
@@ -40,9 +41,15 @@ static size_t read_sheet(const char *name, uint8_t *room, size_t size) {
     return length;
 }
 
-static int refuse(uint32_t number, uint32_t page, uint32_t place, char **names) {
-    fprintf(stderr, "refusal %u, page %u, place %u: %s", (unsigned)number, (unsigned)page, (unsigned)place, reasons[number]);
-    if (page > 0 && number != TOLLGILT_NUMBER_MISSING)
+/* The reason of a refusal; a number that the table does not have can come from a later library alone. */
+static const char *reason(uint32_t number) {
+    const char *words = number < sizeof reasons / sizeof *reasons ? reasons[number] : NULL;
+    return words != NULL ? words : "unknown refusal";
+}
+
+static int refuse(uint32_t number, uint32_t page, uint32_t place, int count, char **names) {
+    fprintf(stderr, "refusal %u, page %u, place %u: %s", (unsigned)number, (unsigned)page, (unsigned)place, reason(number));
+    if (page > 0 && page < (uint32_t)count && number != TOLLGILT_NUMBER_MISSING)
         fprintf(stderr, " (%s)", names[page]);
     fputc('\n', stderr);
     return 1;
@@ -60,6 +67,9 @@ int main(int count, char **names) {
     }
     uint32_t number = tollgilt_list(buffer, size, starts, pages, lens, pages, out, sizeof out, told);
     if (number != TOLLGILT_OK)
-        return refuse(number, told[1], told[2], names);
-    return fwrite(out, 1, told[0], stdout) == told[0] ? 0 : 2;
+        return refuse(number, told[1], told[2], count, names);
+    if (fwrite(out, 1, told[0], stdout) == told[0] && fflush(stdout) == 0)
+        return 0;
+    perror("the listing cannot be written");
+    return 2;
 }

@@ -7,11 +7,15 @@
  * Only numbers and byte ranges cross this border. The library has no state, allocates nothing, writes nothing but what is lent to it for writing, and
  * calls nothing but the C library's memcpy, memmove, memset, memcmp and bcmp. It never fails in another way than by a refusal.
  *
- * To link it, hand the archive to the compiler behind your own files; it needs no other library:
+ * To link it, hand the archive to the compiler behind your own files; it needs no other library. From a new clone to a program that runs, with the Rattle
+ * kit and a C compiler installed, in the folder of the clone:
  *
- *     tools/archive tollgilt
- *     cc -Iinclude examples/list.c target/native/x86_64-unknown-linux-gnu/libtollgilt.a -o list
- */
+ *     tools/archives
+ *     cc -Iinclude examples/list.c target/native/$(uname -m)-unknown-linux-gnu/libtollgilt.a -o target/list
+ *     target/list examples/sheet-1.xml examples/sheet-2.xml examples/sheet-3.xml
+ *
+ * The first proves the library, which takes some minutes once, and writes its archives, for this machine and for Android phones (tools/archives says how an
+ * app links that). */
 #ifndef TOLLGILT_H
 #define TOLLGILT_H
 
