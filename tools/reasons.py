@@ -200,7 +200,7 @@ def reason(number, page, place, sheets, judge):
         z = numbered(sheets[0].page)[1]
         here = [numbered(sheet.page)[0] for sheet in sheets]
         more = [str(n) for n in range(page + 1, int(z) + 1) if str(n) not in here]
-        return both("many missing" if more else 11, missing=", ".join([str(page), *more]), z=z)
+        return both("many missing", missing=both("and", first=", ".join([str(page), *more[:-1]]), last=more[-1]), z=z) if more else both(11, missing=page, z=z)
     sheet = sheets[page - 1]
     again, issuer = both("again", number=page), both("issuer")
     values = {"sheet": named(sheet), "again": again, "issuer": issuer, "reprint": both("reprint", again=again, issuer=issuer)}

@@ -38,35 +38,56 @@ USAGE = ("tollgilt [--table | --html DATEI | --fresh ORDNER] BLATT...", "tollgil
 HELP = """\
 {usage[0]}
 
-Liest ein bis neun Blätter, fügt sie zum Medikationsplan zusammen und gibt ihn aus. BLATT ist eine Datei mit dem Inhalt eines
-Barcodes, so wie der Scanner ihn liefert: für jedes Blatt eine eigene Datei. Die Reihenfolge der Blätter spielt keine Rolle.
+Liest ein bis neun Blätter, fügt sie zum Medikationsplan zusammen und gibt ihn
+aus. BLATT ist eine Datei mit dem Inhalt eines Barcodes, so wie der Scanner ihn
+liefert: für jedes Blatt eine eigene Datei. Ihre Reihenfolge spielt keine Rolle.
 
   --table         der Plan als Tabelle
   --html DATEI    der Plan als Seite zum Ansehen und Drucken im Browser
-  --fresh ORDNER  der Plan neu geschrieben, auf so wenige Blätter wie möglich: ORDNER/sheet-1.xml und so weiter
-  (ohne Option)   der Plan als Zeilen „Feld=Wert“; in Latin-1 wie die Blätter, auf einem UTF-8-Terminal in UTF-8
+  --fresh ORDNER  der Plan neu geschrieben, auf so wenige Blätter wie möglich:
+                  ORDNER/sheet-1.xml und so weiter
+  (ohne Option)   der Plan als Zeilen Feld=Wert, in Latin-1 wie die Blätter;
+                  auf einem Terminal mit UTF-8 in UTF-8
   --help          dieser Text
 
---html und --fresh nennen die geschriebenen Dateien. Sie überschreiben keine; einen fehlenden ORDNER legt --fresh an.
-Sind die Blätter kein Plan, sagt eine Meldung, warum nicht und was zu tun ist. Ihre letzte Zeile ist für Rückfragen: die Nummer der
-Ablehnung, das Blatt von 1 an gezählt und die Stelle darin von 0 an (bei 14 die Zeile des Plans von 1 an).
-Exit-Status: 0 ein Plan, 1 kein Plan, 2 falsch aufgerufen, 3 etwas lässt sich nicht lesen, schreiben oder ausführen.
+Zum Beispiel: tollgilt --table blatt-1.xml blatt-2.xml
+
+--html und --fresh überschreiben keine Datei und nennen die, die sie schreiben;
+fehlt der ORDNER, legt --fresh ihn an. Sind die Blätter kein Plan, so sagt eine
+Meldung, warum nicht und was zu tun ist. Ihre letzte Zeile ist für Rückfragen:
+die Nummer der Ablehnung, das Blatt, gezählt von 1 an (bei 11 die Seite, die
+fehlt), und die Stelle darin, gezählt von 0 an (bei 14 die Zeile des Plans,
+gezählt von 1 an).
+
+Exit-Status: 0 ein Plan, 1 kein Plan, 2 falsch aufgerufen, 3 etwas lässt sich
+nicht lesen, schreiben oder ausführen.
+
+----------------------------------- English -----------------------------------
 
 {usage[1]}
 
-Reads one to nine sheets, joins them into the medication plan and prints it. SHEET is a file with what one barcode holds, as the
-scanner gives it: a file of its own for each sheet. The order of the sheets does not matter.
+Reads one to nine sheets, joins them into the medication plan and prints it.
+SHEET is a file with what one barcode holds, as the scanner gives it: a file of
+its own for each sheet. Their order does not matter.
 
   --table         the plan as a table
   --html FILE     the plan as a page to look at and to print with a browser
-  --fresh DIR     the plan written afresh, on as few sheets as can hold it: DIR/sheet-1.xml and so on
-  (no option)     the plan as key=value lines; in Latin-1 like the sheets, on a UTF-8 terminal in UTF-8
+  --fresh DIR     the plan written afresh, on as few sheets as can hold it:
+                  DIR/sheet-1.xml and so on
+  (no option)     the plan as key=value lines, in Latin-1 like the sheets;
+                  on a terminal with UTF-8 in UTF-8
   --help          this text
 
---html and --fresh name the files they wrote. They overwrite none; --fresh makes the folder DIR where it is missing.
-Where the sheets are no plan, a message says why not and what to do. Its last line is for questions: the number of the refusal, the
-sheet counted from 1 and the place in it counted from 0 (for 14 the plan's row counted from 1).
-Exit status: 0 a plan, 1 no plan, 2 bad use, 3 something cannot be read, written or run.
+For example: tollgilt --table sheet-1.xml sheet-2.xml
+
+--html and --fresh overwrite no file and name those that they write; --fresh
+makes the folder DIR where it is missing. Where the sheets are no plan, a
+message says why not and what to do. Its last line is for questions: the number
+of the refusal, the sheet counted from 1 (at 11 the page that is missing), and
+the place in it counted from 0 (at 14 the plan's row counted from 1).
+
+Exit status: 0 a plan, 1 no plan, 2 bad use, 3 something cannot be read, written
+or run.
 """.format(usage=USAGE)
 
 WORDS = {
@@ -83,6 +104,7 @@ WORDS = {
     "support": ("Bitte die EDV-Betreuung fragen.", "Please ask your technical support."),
     "element": ("{kind}{count}{called}", "{kind}{count}{called}"),
     "part of": ("{kind} {count} in {whole}", "{kind} {count} in {whole}"),
+    "and": ("{first} und {last}", "{first} and {last}"),
     "field": ("„{name}“ ({letters})", '"{name}" ({letters})'),
 
     # bad use
@@ -101,11 +123,12 @@ WORDS = {
                "the file is saved as Unicode (UTF-16), not in Latin-1 as a barcode is: {name}\n{latin} Then scan the sheet once more."),
     "no folder": ("Diesen Ordner gibt es nicht: {name}", "no such folder: {name}"),
     "not a folder": ("Das ist kein Ordner: {name}", "not a folder: {name}"),
-    "there": ("Das gibt es schon, und es wird nicht überschrieben: {name}", "there already, and not overwritten: {name}"),
+    "there": ("Das gibt es schon, und es wird nicht überschrieben: {name}\nBitte einen anderen Namen wählen.",
+              "there already, and not overwritten: {name}\nPlease choose another name."),
 
     # what cannot be read, written or run
-    "unreadable": ("Die Datei lässt sich nicht lesen ({why}): {name}", "the file cannot be read ({why}): {name}"),
-    "unwritable": ("Das lässt sich nicht schreiben ({why}): {name}", "this cannot be written ({why}): {name}"),
+    "unreadable": ("Die Datei lässt sich nicht lesen ({why}): {name}\n{support}", "the file cannot be read ({why}): {name}\n{support}"),
+    "unwritable": ("Das lässt sich nicht schreiben ({why}): {name}\n{support}", "this cannot be written ({why}): {name}\n{support}"),
     "output": ("Die Ausgabe lässt sich nicht schreiben ({why}).", "the output cannot be written ({why})."),
     "EACCES": ("keine Berechtigung", "no permission"),
     "EPERM": ("keine Berechtigung", "no permission"),
@@ -172,8 +195,8 @@ WORDS = {
          "page {missing} of {z} is missing.\nScan that sheet too, and name it with the others."),
     "many missing": ("Es fehlen die Seiten {missing} von {z}.\nDiese Blätter auch scannen und mit angeben.",
                      "pages {missing} of {z} are missing.\nScan these sheets too, and name them with the others."),
-    12: ("Der Plan hat mehr als 256 Zeilen. So lange Pläne werden nicht gelesen.\nDen Plan beim Aussteller kürzer ausdrucken lassen.",
-         "the plan has more than 256 rows. Plans of that length are not read.\nAsk the issuer for a shorter plan."),
+    12: ("Der Plan hat mehr als 256 Zeilen. So lange Pläne werden nicht gelesen.\nDen Plan beim Aussteller kürzen und neu ausdrucken lassen.",
+         "the plan has more than 256 rows. Plans of that length are not read.\nAsk the issuer for a new print of a shorter plan."),
     14: ("Der Plan passt nicht auf neun neue Blätter: Bis Zeile {row} reicht der Platz nicht.\n{other_form}",
          "the plan does not fit on nine fresh sheets: there is no room for the rows up to row {row}.\n{other_form}"),
     "long head": ("Der Plan passt nicht auf neue Blätter: Schon die Angaben zu Patient und Aussteller füllen mehr als ein Blatt.\n{other_form}",
