@@ -1,9 +1,10 @@
--- Unique: the promise leaves no second result: answer, plan and both rooms are determined by the call and by the rooms as lent.
+-- Unique: what `read` and the numbers of its answer promise leaves no second result: answer, plan and both rooms are determined by the call and by the rooms as lent.
 -- Assumes nothing.
 use mathlib.Core.Path.{_≡_, ap, sym, _∙_}
 use mathlib.Core.List.{List}
 use Prim.Native.Nat.{ℕ}
 use Rattle.paper.specs.Reading as Paper
+use Rattle.reader.specs.Answers.{numbersOf}
 use Rattle.reader.specs.Promise.{Promised}
 use Rattle.plan.specs.declared.Plan.{Plan}
 use Rattle.reader.specs.declared.answer.Answer.{Answer}
@@ -23,7 +24,7 @@ made a p = record { answer = a; plan = p }
 same-reading : (r₁ r₂ : Reading) → r₁ .answer ≡ r₂ .answer → r₁ .plan ≡ r₂ .plan → r₁ ≡ r₂
 same-reading r₁ r₂ a p = ap (λ (x : Answer). made x (r₁ .plan)) a ∙ ap (made (r₂ .answer)) p
 
--- no second result and no second final state meets the promise
+-- `read`: no second result and no second final state meets the promise
 pub once : (A : Paper.Answer) (rows text : List ℕ) (r₁ r₂ : Reading) (rows₁ rows₂ text₁ text₂ : List ℕ)
     → Promised A rows text r₁ rows₁ text₁ → Promised A rows text r₂ rows₂ text₂ → Same r₁ r₂ rows₁ rows₂ text₁ text₂
 once (Paper.refusal n k i) rows text r₁ r₂ rows₁ rows₂ text₁ text₂ p q =
@@ -38,3 +39,15 @@ once (Paper.plan l) rows text r₁ r₂ rows₁ rows₂ text₁ text₂ p q =
       rows = p .rows-are ∙ sym (q .rows-are);
       text = p .text-is ∙ sym (q .text-is);
     }
+
+-- `refusal_number`
+pub number-once : (a : Answer) (r₁ r₂ : ℕ) → r₁ ≡ numbersOf a .number → r₂ ≡ numbersOf a .number → r₁ ≡ r₂
+number-once a r₁ r₂ p q = p ∙ sym q
+
+-- `refusal_page`
+pub page-once : (a : Answer) (r₁ r₂ : ℕ) → r₁ ≡ numbersOf a .page → r₂ ≡ numbersOf a .page → r₁ ≡ r₂
+page-once a r₁ r₂ p q = p ∙ sym q
+
+-- `refusal_place`
+pub place-once : (a : Answer) (r₁ r₂ : ℕ) → r₁ ≡ numbersOf a .place → r₂ ≡ numbersOf a .place → r₁ ≡ r₂
+place-once a r₁ r₂ p q = p ∙ sym q

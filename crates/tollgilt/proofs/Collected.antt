@@ -4,19 +4,16 @@
 use mathlib.Core.Path.{_≡_, refl, ap, sym, _∙_, subst}
 use mathlib.Core.Bool.{Bool, true}
 use mathlib.Core.List.{List, []}
-use Prim.Native.Nat.{ℕ, _≤_, _/_}
-use native.Mathlib.Omega.{arith}
+use Prim.Native.Nat.{ℕ, _≤_}
 use lib.ListN.{length}
 use Rattle.paper.specs.Lists.{if}
-use Rattle.paper.specs.Plan as Said
 use Rattle.paper.specs.Reading as Paper
 use Rattle.paper.specs.Reading.{Numbers, numbers}
-use Rattle.paper.specs.Calls.{inside, pagesAt, roomy, freshCall}
+use Rattle.paper.specs.Calls.{inside, pagesAt, freshCall}
 use Rattle.paper.specs.Collecting.{cleared, pagesIn}
 use Rattle.paper.proofs.AnyOrder.{Perm}
 use Rattle.paper.proofs.CallLaws.{reads-pages}
 use Rattle.paper.proofs.Collected.{empty, addAll, reached-all, as-handed-in}
-use Rattle.plan.specs.Numbers.{rowsLent}
 use Rattle.reader.specs.Answers as Reader
 use Rattle.reader.specs.Promise as Reads
 use Rattle.reader.specs.declared.answer.Answer as Read
@@ -58,22 +55,22 @@ room-for : (rows text : List ℕ) (c : Collector) → Enough rows text → colle
 unfolding collected
 room-for rows text c h = ap (λ (x : Bool). if x (readOf c) (Paper.refusal 1 0 0)) (roomy-enough rows text h)
 
-module _ (out b ss ns : List ℕ) (r : Fresh) (out′ : List ℕ) (F : Gives out b ss ns r out′) (rows text : List ℕ) (h : 12600 ≤ length out) (room : Enough rows text) where
+module _ (out b ss ns : List ℕ) (r : Fresh) (out′ : List ℕ) (F : Gives out b ss ns r out′) (rows text : List ℕ) (enough : Enough rows text) where
   -- what the collector's `read` gives, where it answers as the call is answered
-  module _ (d : Collector) (same : readOf d ≡ freshCall (length out) b ss ns) (q : Reading) (rows′ text′ : List ℕ) (R : Reads.Promised (collected rows text d) rows text q rows′ text′) where
+  module _ (room : 12600 ≤ length out) (d : Collector) (same : readOf d ≡ freshCall (length out) b ss ns) (q : Reading) (rows′ text′ : List ℕ) (R : Reads.Promised (collected rows text d) rows text q rows′ text′) where
     read-as : Reads.Promised (freshCall (length out) b ss ns) rows text q rows′ text′
-    read-as = subst (λ (a : Paper.Answer). Reads.Promised a rows text q rows′ text′) (room-for rows text d room ∙ same) R
+    read-as = subst (λ (a : Paper.Answer). Reads.Promised a rows text q rows′ text′) (room-for rows text d enough ∙ same) R
 
     refused-as : (Reader.numbersOf (q .answer) .number ≡ 0 → ⊥) → Reader.numbersOf (q .answer) ≡ numbers (r .number) (r .page) (r .place)
     refused-as z =
         let t : Numbers = Reader.numbersOf (q .answer) in
-        let N = not-written out b ss ns h rows text q rows′ text′ read-as (refusedWith (t .number) (t .page) (t .place)) (t .number) (t .page) (t .place) z refl refl refl refl in
+        let N = not-written out b ss ns room rows text q rows′ text′ read-as (refusedWith (t .number) (t .page) (t .place)) (t .number) (t .page) (t .place) z refl refl refl refl in
         ap (λ (x : Fresh). numbers (x .number) (x .page) (x .place)) (fresh-once (answered out b ss ns) out (refusedWith (t .number) (t .page) (t .place)) r out out′ N F .0)
 
     written-as : q .answer ≡ Plan → (w : Writing) (out₂ : List ℕ) → Writes.Promised (Writes.answered out (q .plan) rows′ text′) out w out₂ → Alike w out₂ r out′
     written-as z w out₂ P =
         let t : Numbers = Writer.numbersOf (w .answer) in
-        let L = plan-laid out b ss ns h rows text q rows′ text′ read-as (ap (λ (a : Read.Answer). Reader.numbersOf a .number) z) w out₂ (t .number) (t .place) P refl refl in
+        let L = plan-laid out b ss ns room rows text q rows′ text′ read-as (ap (λ (a : Read.Answer). Reader.numbersOf a .number) z) w out₂ (t .number) (t .place) P refl refl in
         let (e, f) = fresh-once (answered out b ss ns) out (made (t .number) (t .place) w) r out₂ out′ L F in
         record {
           answer-is = no-page (w .answer) ∙ ap (λ (x : Fresh). numbers (x .number) (x .page) (x .place)) e;
@@ -82,19 +79,19 @@ module _ (out b ss ns : List ℕ) (r : Fresh) (out′ : List ℕ) (F : Gives out
           room-is = f;
         }
 
-  -- Pages are added to the empty collector, whatever is answered to each. The call hands in, in any order, the pages that it kept.
-  module _ (g : List (List ℕ)) (d : Collector) (L : Leads emptyCollector g d) (lie : inside b ss ns ≡ true) (kept : Perm (pagesIn (addAll cleared g)) (pagesAt b ss ns))
+  -- Pages are added to the empty collector, whatever is answered to each. The call hands in, in any order, the pages that it kept, and lends room enough.
+  module _ (room : 12600 ≤ length out) (g : List (List ℕ)) (d : Collector) (L : Leads emptyCollector g d) (lie : inside b ss ns ≡ true) (kept : Perm (pagesIn (addAll cleared g)) (pagesAt b ss ns))
       (q : Reading) (rows′ text′ : List ℕ) (R : Reads.Promised (collected rows text d) rows text q rows′ text′) where
     at-once : readOf d ≡ freshCall (length out) b ss ns
-    at-once = reads-led g d L ∙ sym (roomy-call out b ss ns h ∙ (reads-pages b ss ns lie ∙ as-handed-in (reached-all empty g) (pagesAt b ss ns) kept))
+    at-once = reads-led g d L ∙ sym (roomy-call out b ss ns room ∙ (reads-pages b ss ns lie ∙ as-handed-in (reached-all empty g) (pagesAt b ss ns) kept))
 
     -- Where the collector's `read` refuses, `fresh_pages` refuses the call with the same number, page and place.
     pub refused-alike : (Reader.numbersOf (q .answer) .number ≡ 0 → ⊥) → Reader.numbersOf (q .answer) ≡ numbers (r .number) (r .page) (r .place)
-    refused-alike = refused-as d at-once q rows′ text′ R
+    refused-alike = refused-as room d at-once q rows′ text′ R
 
     -- Where it gives a plan, writing what it laid out gives what `fresh_pages` gives: the same pages in the same room, or 14 at the same place.
     pub written-alike : q .answer ≡ Plan → (w : Writing) (out₂ : List ℕ) → Writes.Promised (Writes.answered out (q .plan) rows′ text′) out w out₂ → Alike w out₂ r out′
-    written-alike = written-as d at-once q rows′ text′ R
+    written-alike = written-as room d at-once q rows′ text′ R
 
   -- Pages that `fresh_pages` accepts at once are collected in any order: none is missing, the collector's `read` gives a plan, and writing it gives what `fresh_pages` gave.
   pub any-order : Accepted r → (g : List (List ℕ)) → Perm (pagesAt b ss ns) g → (d : Collector) → Leads emptyCollector g d
@@ -104,6 +101,6 @@ module _ (out b ss ns : List ℕ) (r : Fresh) (out′ : List ℕ) (F : Gives out
       let (p, e) = accepted out b ss ns r out′ F .0 a in
       let (none, reads) = Shown.any-order (pagesAt b ss ns) g p m (plan-read out b ss ns p e) in
       let to = led emptyCollector g d L in
-      let plan-read : readOf d ≡ Paper.plan p = ap readOf to ∙ reads in
-      let T : Reads.Promised (Paper.plan p) rows text q rows′ text′ = subst (λ (x : Paper.Answer). Reads.Promised x rows text q rows′ text′) (room-for rows text d room ∙ plan-read) R in
-      (ap missing to ∙ none, T .answer-is, written-as d (plan-read ∙ sym e) q rows′ text′ R (T .answer-is))
+      let gives : readOf d ≡ Paper.plan p = ap readOf to ∙ reads in
+      let T : Reads.Promised (Paper.plan p) rows text q rows′ text′ = subst (λ (x : Paper.Answer). Reads.Promised x rows text q rows′ text′) (room-for rows text d enough ∙ gives) R in
+      (ap missing to ∙ none, T .answer-is, written-as (plan-roomy out b ss ns p e) d (gives ∙ sym e) q rows′ text′ R (T .answer-is))

@@ -17,29 +17,29 @@ use Rattle.tollgilt.proofs.FreshInput.{FreshPrints}
 same-result : (r₁ r₂ : Listed) → r₁ .answer ≡ r₂ .answer → r₁ .length ≡ r₂ .length → r₁ ≡ r₂
 same-result r₁ r₂ a n = ap (λ (x : Answer). result x (r₁ .length)) a ∙ ap (result (r₂ .answer)) n
 
--- no second result and no second room meets the promise of a listing
+-- `list_pages`: no second result and no second room meets the promise
 pub once : (a : Paper.Answer) (out : List ℕ) (r₁ r₂ : Listed) (out₁ out₂ : List ℕ) → Promised a out r₁ out₁ → Promised a out r₂ out₂ → (r₁ ≡ r₂) × (out₁ ≡ out₂)
 once a out r₁ r₂ out₁ out₂ p q =
     (same-result r₁ r₂ (told-once a (r₁ .answer) (r₂ .answer) (p .answer-is) (q .answer-is)) (p .length-is ∙ sym (q .length-is)), p .room-is ∙ sym (q .room-is))
 
--- nor that of the border
+-- `tollgilt_list`
 pub handed-once : (a : Paper.Answer) (out : List ℕ) (r₁ r₂ : ℕ) (out₁ out₂ told₁ told₂ : List ℕ) → Handed a out r₁ out₁ told₁ → Handed a out r₂ out₂ told₂
     → (r₁ ≡ r₂) × (out₁ ≡ out₂) × (told₁ ≡ told₂)
 handed-once a out r₁ r₂ out₁ out₂ told₁ told₂ p q = (p .number-is ∙ sym (q .number-is), p .room-is ∙ sym (q .room-is), p .told-is ∙ sym (q .told-is))
 
--- nor what is printed for an input
+-- `list_input`
 pub printed-once : (out input out₁ out₂ : List ℕ) (r₁ r₂ : ℕ) → Prints out input out₁ r₁ → Prints out input out₂ r₂ → (r₁ ≡ r₂) × (out₁ ≡ out₂)
 printed-once out input out₁ out₂ r₁ r₂ p q = (p .0 ∙ sym (q .0), p .1 ∙ sym (q .1))
 
--- no second result and no second room meets the promise of fresh pages
+-- `fresh_pages`
 pub fresh-once : (a : Fresh.Answer) (out : List ℕ) (r₁ r₂ : Pages.Fresh) (out₁ out₂ : List ℕ) → Fresh.Promised a out r₁ out₁ → Fresh.Promised a out r₂ out₂ → (r₁ ≡ r₂) × (out₁ ≡ out₂)
 fresh-once a out r₁ r₂ out₁ out₂ p q = (p .result-is ∙ sym (q .result-is), p .room-is ∙ sym (q .room-is))
 
--- nor that of their border
+-- `tollgilt_fresh`
 pub fresh-handed-once : (a : Fresh.Answer) (out : List ℕ) (r₁ r₂ : ℕ) (out₁ out₂ told₁ told₂ : List ℕ) → Fresh.Handed a out r₁ out₁ told₁ → Fresh.Handed a out r₂ out₂ told₂
     → (r₁ ≡ r₂) × (out₁ ≡ out₂) × (told₁ ≡ told₂)
 fresh-handed-once a out r₁ r₂ out₁ out₂ told₁ told₂ p q = (p .number-is ∙ sym (q .number-is), p .room-is ∙ sym (q .room-is), p .told-is ∙ sym (q .told-is))
 
--- nor what planfresh prints for an input
+-- `fresh_input`
 pub fresh-printed-once : (out input out₁ out₂ : List ℕ) (r₁ r₂ : ℕ) → FreshPrints out input out₁ r₁ → FreshPrints out input out₂ r₂ → (r₁ ≡ r₂) × (out₁ ≡ out₂)
 fresh-printed-once out input out₁ out₂ r₁ r₂ p q = (p .0 ∙ sym (q .0), p .1 ∙ sym (q .1))

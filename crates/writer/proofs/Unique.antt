@@ -1,9 +1,10 @@
--- Unique: the promise leaves no second result: answer, pages, lengths and the room are determined by the call and by the room as lent.
+-- Unique: what `write` and the numbers of its answer promise leaves no second result: answer, pages, lengths and the room are determined by the call and by the room as lent.
 -- Assumes nothing.
 use mathlib.Core.Path.{_≡_, ap, sym, _∙_}
 use mathlib.Core.List.{List}
 use Prim.Native.Nat.{ℕ}
 use Rattle.paper.specs.Writing.{Written, badCall, unsound, tooLong, written}
+use Rattle.writer.specs.Answers.{numbersOf}
 use Rattle.writer.specs.Promise.{Promised, Refuses}
 use Rattle.writer.specs.declared.answer.Outcome.{Outcome}
 use Rattle.writer.specs.declared.writing.Writing.{Writing}
@@ -29,7 +30,7 @@ refused-once n i out r₁ r₂ out₁ out₂ p q =
       room = p .room-is ∙ sym (q .room-is);
     }
 
--- no second result and no second final room meets the promise
+-- `write`: no second result and no second final room meets the promise
 pub once : (A : Written) (out : List ℕ) (r₁ r₂ : Writing) (out₁ out₂ : List ℕ) → Promised A out r₁ out₁ → Promised A out r₂ out₂ → Same r₁ r₂ out₁ out₂
 once badCall out r₁ r₂ out₁ out₂ p q = refused-once 1 0 out r₁ r₂ out₁ out₂ p q
 once (unsound i) out r₁ r₂ out₁ out₂ p q = refused-once 13 i out r₁ r₂ out₁ out₂ p q
@@ -39,3 +40,11 @@ once (written f) out r₁ r₂ out₁ out₂ p q =
       result = same-writing r₁ r₂ (p .answer-is ∙ sym (q .answer-is)) (p .pages-are ∙ sym (q .pages-are)) (p .lens-are ∙ sym (q .lens-are));
       room = p .room-is ∙ sym (q .room-is);
     }
+
+-- `outcome_number`
+pub number-once : (a : Outcome) (r₁ r₂ : ℕ) → r₁ ≡ numbersOf a .number → r₂ ≡ numbersOf a .number → r₁ ≡ r₂
+number-once a r₁ r₂ p q = p ∙ sym q
+
+-- `outcome_place`
+pub place-once : (a : Outcome) (r₁ r₂ : ℕ) → r₁ ≡ numbersOf a .place → r₂ ≡ numbersOf a .place → r₁ ≡ r₂
+place-once a r₁ r₂ p q = p ∙ sym q
