@@ -1,7 +1,7 @@
 -- ColumnLaws: what stands in the columns at a place is what paper's table has there.
 -- Assumes nothing.
 use mathlib.Core.Path.{_≡_, refl, sym, ap, _∙_}
-use mathlib.Core.Bool.{Bool, true, false, not, _&&_, _||_}
+use mathlib.Core.Bool.{Bool, true, false, _&&_}
 use mathlib.Core.List.{List, [], _∷_, map}
 use Prim.Native.Nat.{ℕ, zero, suc, _+_, _≤_, _<_}
 use native.Mathlib.Omega.{arith}
@@ -12,10 +12,10 @@ use mir.Syntax.{w64}
 use mir.Val.{Fits}
 use borrow.Author.Tests.{eqb-true, leb-true}
 use Rattle.paper.specs.Lists.{same, every}
-use Rattle.paper.specs.Fields.{Kind, unknown, MP, P, A, O, S, M, W, R, X, code, Field, table, fieldsOf, tagName, excluded, most-of}
+use Rattle.paper.specs.Fields.{Kind, unknown, MP, P, A, O, S, M, W, R, X, code, Field, table, fieldsOf, tagName, excluded}
 use Rattle.paper.proofs.Small.{both, below-at, same-eq}
-use Rattle.fields.specs.Places.{kindAt, ruleNumber, noField, fieldAt, firstOf, countOf, under, rankOf, onesOf, othersOf, keyOf}
-use Rattle.fields.specs.Columns.{bit, keyColumn, elementColumn, ruleColumn, leastColumn, mostColumn, tildeColumn, mustColumn, firstColumn, countColumn, childKeyColumn, childKindColumn, childFirstColumn, childCountColumn, limitColumn, tagColumn, rankColumn, oneColumn, otherColumn, pairFirstColumn, pairCountColumn}
+use Rattle.fields.specs.Places.{kindAt, ruleNumber, noField, fieldAt, firstOf, countOf, under, onesOf, othersOf, keyOf}
+use Rattle.fields.specs.Columns.{bit, keyColumn, ruleColumn, leastColumn, mostColumn, tildeColumn, mustColumn, firstColumn, countColumn, childKeyColumn, childKindColumn, childFirstColumn, childCountColumn, oneColumn, otherColumn, pairFirstColumn, pairCountColumn}
 
 -- ---- a field's columns
 
@@ -39,11 +39,6 @@ fits-entry l i e = omega (arith, small-entry l i e)
 pub letters-at : (id : ℕ) → id < 52 → getD keyColumn id 0 ≡ keyOf (fieldAt id .letters)
 unfolding keyColumn fieldAt
 letters-at id h = getD-of (λ (f : Field). keyOf (f .letters)) table id noField h
-
--- its element
-pub element-at : (id : ℕ) → getD elementColumn id 0 ≡ code (fieldAt id .element)
-unfolding elementColumn fieldAt
-element-at id = List·getD-map (λ (f : Field). code (f .element)) table id noField
 
 -- the rule of a field
 pub rule-at : (id : ℕ) → getD ruleColumn id 0 ≡ ruleNumber (fieldAt id .rule)
@@ -86,21 +81,6 @@ first-at e h = eqb-true (getD firstColumn e 0) (firstOf (kindAt e)) (below-at 10
 pub count-at : (e : ℕ) → e < 10 → getD countColumn e 0 ≡ countOf (kindAt e)
 unfolding countColumn countOf kindAt fieldsOf
 count-at e h = eqb-true (getD countColumn e 0) (countOf (kindAt e)) (below-at 10 (λ (n : ℕ). eqb (getD countColumn n 0) (countOf (kindAt n))) refl e h)
-
--- how many of an element its parent may have
-pub limit-at : (e : ℕ) → e < 10 → getD limitColumn e 0 ≡ most-of (kindAt e)
-unfolding limitColumn kindAt
-limit-at e h = eqb-true (getD limitColumn e 0) (most-of (kindAt e)) (below-at 10 (λ (n : ℕ). eqb (getD limitColumn n 0) (most-of (kindAt n))) refl e h)
-
--- the name of an element
-pub tag-at : (e : ℕ) → e < 10 → getD tagColumn e 0 ≡ keyOf (tagName (kindAt e))
-unfolding tagColumn kindAt
-tag-at e h = eqb-true (getD tagColumn e 0) (keyOf (tagName (kindAt e))) (below-at 10 (λ (n : ℕ). eqb (getD tagColumn n 0) (keyOf (tagName (kindAt n)))) refl e h)
-
--- the rank of an element inside MP
-pub rank-at : (e : ℕ) → e < 10 → getD rankColumn e 0 ≡ rankOf (kindAt e)
-unfolding rankColumn kindAt
-rank-at e h = eqb-true (getD rankColumn e 0) (rankOf (kindAt e)) (below-at 10 (λ (n : ℕ). eqb (getD rankColumn n 0) (rankOf (kindAt n))) refl e h)
 
 -- how many excluded pairs an element has
 pub pairs-at : (e : ℕ) → e < 10 → getD pairCountColumn e 0 ≡ length (excluded (kindAt e))

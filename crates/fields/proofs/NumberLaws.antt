@@ -1,21 +1,20 @@
 -- NumberLaws: the number that digits show, digit by digit, and the digits that spell a number, from the last one on.
 -- Assumes nothing.
 use mathlib.Core.Path.{_≡_, refl, sym, ap, _∙_}
-use mathlib.Core.Bool.{Bool, true, false, not, _&&_, _||_}
+use mathlib.Core.Bool.{Bool, true, false, not, _&&_}
 use mathlib.Core.List.{List, [], _∷_, _++_, append-assoc}
 use Prim.Native.Nat.{ℕ, zero, suc, _+_, _*_, _-_, _/_, _%_, _≤_, _<_}
-use native.Mathlib.Nat.{mul-assoc, mul-le-mul-right}
 use native.Mathlib.Numerals.{add-one}
 use native.Mathlib.Omega.{arith}
 use lib.Dec.{eqb, leb, ltb}
 use lib.ListN.{length, take, drop, getD, set, length-append, take-append-drop, drop-of-length-le}
 use lib.Seq.{drop-cons, length-take-le, take-nil, take-set-le, take-take, set-split, drop-at}
-use borrow.Author.Tests.{ltb-true, ltb-false, eqb-true, eqb-false, eq-eqb, leb-true, le-leb, lt-leb, lt-ltb, le-ltb}
+use borrow.Author.Tests.{ltb-true, eqb-true, eqb-false, leb-true, le-leb, lt-ltb, le-ltb}
 use Rattle.paper.specs.Lists.{if, every, number}
 use Rattle.paper.specs.Bytes.{isDigit}
 use Rattle.paper.specs.Rules.{is-byte}
 use Rattle.paper.specs.Writing.{decimal, digitsOf}
-use Rattle.paper.proofs.Small.{both, no}
+use Rattle.paper.proofs.Small.{both}
 use Rattle.paper.proofs.Canon.{number-up}
 
 -- ---- the number that digits show
@@ -153,20 +152,3 @@ lay-done out out₀ at k m n z e f =
     let back : decimal n ++ drop (at + w) out₀ ≡ drop at out =
     ap (λ (l : List ℕ). l ++ drop (at + w) out₀) (all-decimal n) ∙ f ∙ ap (λ (j : ℕ). lastDigits j m ++ drop (at + k) out) z ∙ ap (λ (j : ℕ). drop j out) g in
     sym (take-append-drop at out) ∙ ap (λ (l : List ℕ). l ++ drop at out) front ∙ ap (λ (l : List ℕ). take at out₀ ++ l) (sym back)
-
--- ---- how large a number is that digits show
-
-number-small : (s : List ℕ) (a : ℕ) → every isDigit s ≡ true → number a s < (a + 1) * tens (length s)
-number-small [] a d = omega arith
-number-small (c ∷ s) a d =
-    let (x, y) = both (isDigit c) (every isDigit s) d in
-    let (p, q) = both (leb 48 c) (leb c 57) x in
-    let e : a * 10 + (c - 48) + 1 ≤ (a + 1) * 10 = (let l = leb-true c 57 q in omega arith) in
-    let f : (a * 10 + (c - 48) + 1) * tens (length s) ≤ (a + 1) * 10 * tens (length s) = mul-le-mul-right (tens (length s)) e in
-    let g : (a + 1) * 10 * tens (length s) ≡ (a + 1) * (10 * tens (length s)) = mul-assoc (a + 1) 10 (tens (length s)) in
-    let h = number-small s (a * 10 + (c - 48)) y in
-    omega arith
-
--- digits show a number below ten, a hundred, a thousand and so on
-pub number-below : (s : List ℕ) → every isDigit s ≡ true → number 0 s < tens (length s)
-number-below s d = let h = number-small s 0 d in omega arith

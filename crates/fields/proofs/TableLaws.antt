@@ -1,22 +1,21 @@
--- TableLaws: what a caller of the look-ups needs of paper's table: known letters, the field at a place of an element, the order by ranks, and
--- names from their keys.
+-- TableLaws: what a caller of the look-ups needs of paper's table: known letters, the field at a place of an element, and names from their keys.
 -- Assumes nothing.
 use mathlib.Core.Path.{_≡_, refl, sym, ap, _∙_}
-use mathlib.Core.Bool.{Bool, true, false, not, _&&_, _||_}
+use mathlib.Core.Bool.{Bool, true, false, _||_}
 use mathlib.Core.List.{List, [], _∷_}
-use Prim.Native.Nat.{ℕ, zero, suc, _+_, _≤_, _<_}
+use Prim.Native.Nat.{ℕ, suc, _+_, _<_}
 use native.Mathlib.Omega.{arith}
 use lib.Dec.{eqb, ltb}
 use lib.ListN.{length, take, drop, getD}
 use lib.Seq.{getD-take, getD-drop}
 use borrow.Author.Tests.{eqb-true, lt-ltb, ltb-true, ltb-false, le-ltb}
 use Rattle.paper.specs.Lists.{if, same, elem}
-use Rattle.paper.specs.Fields.{Kind, unknown, MP, P, A, O, S, M, W, R, X, code, Field, table, fieldsOf, tagName, later}
+use Rattle.paper.specs.Fields.{Kind, unknown, MP, P, A, O, S, M, W, R, X, code, Field, table, fieldsOf}
 use Rattle.paper.specs.Judging.{lettersOf}
-use Rattle.paper.proofs.Small.{below, below-at}
-use Rattle.fields.specs.Places.{kindAt, noField, fieldAt, placeIn, firstOf, countOf, rankOf, keyOf, nameOf}
+use Rattle.paper.proofs.Small.{below-at}
+use Rattle.fields.specs.Places.{kindAt, noField, fieldAt, placeIn, firstOf, countOf, keyOf, nameOf}
 use Rattle.fields.proofs.NameLaws.{name-back}
-use Rattle.fields.proofs.ColumnLaws.{short, code-small}
+use Rattle.fields.proofs.ColumnLaws.{short}
 use Rattle.fields.proofs.FoundLaws.{short-is}
 
 -- letters are known just when a field is found
@@ -83,28 +82,6 @@ field-at k i h =
     ∙ getD-take (countOf k) (drop (firstOf k) table) i noField h
     ∙ getD-drop (firstOf k) table i noField
 
--- two truth values agree
-abbrev agree : Bool → Bool → Bool
-agree true b = b
-agree false b = not b
-
-agreed : (a b : Bool) → agree a b ≡ true → a ≡ b
-agreed true b e = sym e
-agreed false true e = e
-agreed false false e = refl
-
--- later, by the numbers of two kinds
-by-rank : ℕ → ℕ → Bool
-by-rank a b = agree (later (kindAt a) (kindAt b)) (ltb 0 (rankOf (kindAt a)) && ltb (rankOf (kindAt a)) (rankOf (kindAt b)))
-
--- a kind is later than another just when both have ranks and its rank is above
-pub later-rank : (j k : Kind) → later j k ≡ (ltb 0 (rankOf j) && ltb (rankOf j) (rankOf k))
-unfolding kindAt by-rank
-later-rank j k =
-    let row = below-at 10 (λ (a : ℕ). below 10 (by-rank a)) refl (code j) (code-small j) in
-    let one = below-at 10 (by-rank (code j)) row (code k) (code-small k) in
-    agreed (later j k) (ltb 0 (rankOf j) && ltb (rankOf j) (rankOf k)) (rw (kind-back j, kind-back k) at one)
-
 -- ---- names from keys
 
 short-at : (id : ℕ) → id < 52 → short (fieldAt id .letters) ≡ true
@@ -114,17 +91,3 @@ short-at id h = below-at 52 (λ (n : ℕ). short (fieldAt n .letters)) refl id h
 -- the letters of a field, back from their key
 pub letters-back : (id : ℕ) → id < 52 → nameOf (keyOf (fieldAt id .letters)) ≡ fieldAt id .letters
 letters-back id h = name-back (fieldAt id .letters) (short-is (fieldAt id .letters) (short-at id h))
-
--- the name of an element, back from its key
-pub tag-back : (k : Kind) → nameOf (keyOf (tagName k)) ≡ tagName k
-unfolding nameOf
-tag-back unknown = refl
-tag-back MP = refl
-tag-back P = refl
-tag-back A = refl
-tag-back O = refl
-tag-back S = refl
-tag-back M = refl
-tag-back W = refl
-tag-back R = refl
-tag-back X = refl

@@ -2,13 +2,13 @@
 -- leastColumn, mostColumn, tildeColumn and mustColumn; the others serve this crate.
 -- Assumes nothing.
 use mathlib.Core.Bool.{Bool, true, false, not}
-use mathlib.Core.List.{List, [], _∷_, _++_, map}
+use mathlib.Core.List.{List, [], _∷_, map}
 use Prim.Native.Nat.{ℕ}
 use lib.Dec.{eqb}
 use lib.ListN.{length, take}
 use Rattle.paper.specs.Lists.{concat}
-use Rattle.paper.specs.Fields.{Kind, code, Field, table, tagName, excluded, most-of}
-use Rattle.fields.specs.Places.{ruleNumber, kinds, keyOf, firstOf, countOf, under, rankOf, onesOf, othersOf}
+use Rattle.paper.specs.Fields.{Kind, code, Field, table, tagName, excluded}
+use Rattle.fields.specs.Places.{ruleNumber, kinds, keyOf, firstOf, countOf, under, onesOf, othersOf}
 
 -- a truth value as a number
 abbrev pub bit : Bool → ℕ
@@ -18,10 +18,6 @@ bit false = 0
 -- the letters of the fields, as keys
 unfoldable pub keyColumn : List ℕ
 keyColumn = map (λ (f : Field). keyOf (f .letters)) table
-
--- the elements of the fields
-unfoldable pub elementColumn : List ℕ
-elementColumn = map (λ (f : Field). code (f .element)) table
 
 -- the rules of the fields
 unfoldable pub ruleColumn : List ℕ
@@ -74,18 +70,6 @@ childFirstColumn = map (λ (n : ℕ). length (concat (map under (take n parents)
 -- how many each parent may hold
 unfoldable pub childCountColumn : List ℕ
 childCountColumn = map (λ (n : ℕ). length (under n)) parents
-
--- how many of each element its parent may have
-unfoldable pub limitColumn : List ℕ
-limitColumn = map most-of kinds
-
--- the names of the elements, as keys
-unfoldable pub tagColumn : List ℕ
-tagColumn = map (λ (k : Kind). keyOf (tagName k)) kinds
-
--- the ranks of the elements
-unfoldable pub rankColumn : List ℕ
-rankColumn = map rankOf kinds
 
 -- the ones of the excluded pairs, one element's behind the other's
 unfoldable pub oneColumn : List ℕ

@@ -3,28 +3,24 @@ ghost use mathlib.Core.Path.{_≡_};
 ghost use Prim.Native.Nat.{_+_, _-_, _<_, _≤_};
 ghost use lib.ListN.{length, take, drop, getD};
 ghost use Rattle.paper.specs.Lists.{until};
-ghost use Rattle.paper.specs.Fields.{code, tagName, named, fieldsOf, most-of, excluded};
-ghost use Rattle.fields.specs.Places.{kindAt, ruleNumber, fieldAt, placeIn, firstOf, countOf, under, rankOf, onesOf, othersOf, keyOf, keyOrNone};
+ghost use Rattle.paper.specs.Fields.{code, named, fieldsOf, excluded};
+ghost use Rattle.fields.specs.Places.{kindAt, ruleNumber, fieldAt, placeIn, firstOf, countOf, under, onesOf, othersOf, keyOf, keyOrNone};
 ghost use Rattle.fields.specs.Columns.{other, keyColumn, ruleColumn, leastColumn, mostColumn, tildeColumn, mustColumn};
 use crate::table::CHILD_COUNTS;
 use crate::table::CHILD_FIRSTS;
 use crate::table::CHILD_KEYS;
 use crate::table::CHILD_KINDS;
 use crate::table::COUNTS;
-use crate::table::ELEMENTS;
 use crate::table::FIRSTS;
 use crate::table::KEYS;
 use crate::table::LEASTS;
-use crate::table::MOST_OF;
 use crate::table::MOSTS;
 use crate::table::MUSTS;
 use crate::table::PAIR_COUNTS;
 use crate::table::PAIR_FIRSTS;
 use crate::table::PAIR_ONES;
 use crate::table::PAIR_OTHERS;
-use crate::table::RANKS;
 use crate::table::RULES;
-use crate::table::TAGS;
 use crate::table::TILDES;
 
 // The letters of all fields, as keys.
@@ -77,52 +73,12 @@ pub fn letters_of(id: usize) -> u64
     KEYS[id]
 }
 
-// A field's element.
-pub fn element_of(id: usize) -> u8
-    requires { ⌜ id < 52 ⌝ }
-    ensures { λ r. ⌜ r ≡ code (fieldAt id .element) ⌝ }
-{
-    ELEMENTS[id]
-}
-
 // A field's rule.
 pub fn rule_of(id: usize) -> u8
     requires { ⌜ id < 52 ⌝ }
     ensures { λ r. ⌜ r ≡ ruleNumber (fieldAt id .rule) ⌝ }
 {
     RULES[id]
-}
-
-// A field's least length.
-pub fn least_of(id: usize) -> u16
-    requires { ⌜ id < 52 ⌝ }
-    ensures { λ r. ⌜ r ≡ fieldAt id .least ⌝ }
-{
-    LEASTS[id]
-}
-
-// A field's greatest length.
-pub fn most_of(id: usize) -> u16
-    requires { ⌜ id < 52 ⌝ }
-    ensures { λ r. ⌜ r ≡ fieldAt id .most ⌝ }
-{
-    MOSTS[id]
-}
-
-// How many line breaks a field may have.
-pub fn tildes_of(id: usize) -> u8
-    requires { ⌜ id < 52 ⌝ }
-    ensures { λ r. ⌜ r ≡ fieldAt id .tildes ⌝ }
-{
-    TILDES[id]
-}
-
-// Whether a field must be present.
-pub fn must(id: usize) -> bool
-    requires { ⌜ id < 52 ⌝ }
-    ensures { λ r. ⌜ r ≡ fieldAt id .must ⌝ }
-{
-    MUSTS[id] == 1
 }
 
 // The place of an element's first field in the table.
@@ -139,22 +95,6 @@ pub fn count_of(element: u8) -> usize
     ensures { λ r. ⌜ (r ≡ countOf (kindAt element)) × (firstOf (kindAt element) + r ≤ 52) ⌝ }
 {
     COUNTS[element as usize] as usize
-}
-
-// How many of an element its parent may have; 0 is any number.
-pub fn limit_of(element: u8) -> usize
-    requires { ⌜ element < 10 ⌝ }
-    ensures { λ r. ⌜ r ≡ most-of (kindAt element) ⌝ }
-{
-    MOST_OF[element as usize] as usize
-}
-
-// An element's rank in the order inside MP, counted from 1; 0 for an element that stands elsewhere.
-pub fn rank_of(element: u8) -> u8
-    requires { ⌜ element < 10 ⌝ }
-    ensures { λ r. ⌜ r ≡ rankOf (kindAt element) ⌝ }
-{
-    RANKS[element as usize]
 }
 
 // How many pairs of fields of an element exclude each other.
@@ -179,14 +119,6 @@ pub fn pair_other(element: u8, i: usize) -> usize
     ensures { λ r. ⌜ r ≡ getD (othersOf (kindAt element)) i 0 ⌝ }
 {
     PAIR_OTHERS[PAIR_FIRSTS[element as usize] as usize + i] as usize
-}
-
-// The name of an element in its tags, as a key.
-pub fn tag_of(element: u8) -> u64
-    requires { ⌜ element < 10 ⌝ }
-    ensures { λ r. ⌜ r ≡ keyOf (tagName (kindAt element)) ⌝ }
-{
-    TAGS[element as usize]
 }
 
 // The key of a name; 0 for one of more than seven bytes, which no element and no field has.

@@ -1,22 +1,9 @@
-// Names from their keys: how long they are, and laid into lent bytes.
+// Names from their keys, laid into lent bytes.
 ghost use mathlib.Core.Path.{_≡_};
 ghost use mathlib.Core.List.{_++_};
 ghost use Prim.Native.Nat.{_+_, _≤_};
 ghost use lib.ListN.{length, take, drop};
 ghost use Rattle.fields.specs.Places.{nameOf};
-
-// How many bytes the name of a key has.
-pub fn name_len(key: u64) -> usize
-    ensures { λ r. ⌜ r ≡ length (nameOf key) ⌝ }
-{
-    let mut k = key;
-    let mut n = 0;
-    while k >= 256 {
-        k /= 256;
-        n += 1;
-    }
-    n
-}
 
 // Lays the name of a key into the lent bytes from a place on, and tells the place behind it. All other bytes stay.
 pub fn lay_name(key: u64, out: &mut [u8], at: usize) -> usize

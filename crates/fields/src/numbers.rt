@@ -33,14 +33,6 @@ pub fn shown(v: &[u8], from: usize, to: usize) -> u32
     a
 }
 
-// The number that all bytes of a value show, at most eight of them.
-pub fn value(v: &[u8]) -> u32
-    requires { ⌜ length (now v) ≤ 8 ⌝ }
-    ensures { λ r. ⌜ r ≡ number 0 (now (v .entry)) ⌝ }
-{
-    shown(v, 0, v.len())
-}
-
 // How many digits a number has, without leading zeros: none for 0, which is absent, and at most nine.
 pub fn width(n: u32) -> usize
     ensures { λ r. ⌜ r ≡ length (decimal n) ⌝ }

@@ -5,17 +5,16 @@ ghost use Prim.Native.Nat.{ℕ, _<_};
 ghost use lib.Dec.{leb};
 ghost use Rattle.paper.specs.Lists.{every, count};
 ghost use Rattle.paper.specs.Bytes.{isDecoded};
-ghost use Rattle.paper.specs.Rules.{obeys, keeps, linesOk, isZero};
+ghost use Rattle.paper.specs.Rules.{obeys, keeps, linesOk};
 ghost use Rattle.fields.specs.Places.{ruleAt, limits, fieldAt};
 ghost use Rattle.fields.specs.Columns.{ruleColumn, leastColumn, mostColumn, tildeColumn};
 use crate::dates::is_birthday;
 use crate::dates::is_stamp;
 use crate::dose::is_dose;
-use crate::dose::is_zero;
-use crate::lookup::least_of;
-use crate::lookup::most_of;
-use crate::lookup::rule_of;
-use crate::lookup::tildes_of;
+use crate::lookup::leasts;
+use crate::lookup::mosts;
+use crate::lookup::rules;
+use crate::lookup::tildes;
 use crate::package_number::is_package;
 use crate::sets::CODE;
 use crate::sets::DIGIT;
@@ -148,22 +147,6 @@ pub fn keeps_limits(rule: u8, least: u16, most: u16, tildes: u8, v: &[u8]) -> bo
     false
 }
 
-// Whether a present value keeps the field at a place of the table.
-pub fn keeps_field(id: usize, v: &[u8]) -> bool
-    requires { ⌜ id < 52 ⌝ }
-    ensures { λ r. ⌜ r ≡ keeps (fieldAt id) (now (v .entry)) ⌝ }
-{
-    keeps_limits(rule_of(id), least_of(id), most_of(id), tildes_of(id), v)
-}
-
-// Whether a value of the field at a place of the table reads as absent: a dose of exactly "0".
-pub fn reads_absent(id: usize, v: &[u8]) -> bool
-    requires { ⌜ id < 52 ⌝ }
-    ensures { λ r. ⌜ r ≡ isZero (fieldAt id .rule) (now (v .entry)) ⌝ }
-{
-    is_zero(rule_of(id), v)
-}
-
 // Whether a present value keeps its field, with the columns of the table handed down by a caller that copies them once.
 pub fn keeps_in(
     rules: &[u8; 52],
@@ -177,4 +160,16 @@ pub fn keeps_in(
     ensures { λ r. ⌜ r ≡ keeps (fieldAt id) (now (v .entry)) ⌝ }
 {
     keeps_limits(rules[id], leasts[id], mosts[id], tildes[id], v)
+}
+
+// The same, with the columns of the table itself.
+pub fn keeps_field(id: usize, v: &[u8]) -> bool
+    requires { ⌜ id < 52 ⌝ }
+    ensures { λ r. ⌜ r ≡ keeps (fieldAt id) (now (v .entry)) ⌝ }
+{
+    let rules = rules();
+    let leasts = leasts();
+    let mosts = mosts();
+    let tildes = tildes();
+    keeps_in(&rules, &leasts, &mosts, &tildes, id, v)
 }

@@ -56,62 +56,6 @@ pub const KEYS: [u64; 52] = [
     372, // X.t
 ];
 
-// Each field's element, by its number.
-pub const ELEMENTS: [u8; 52] = [
-    1, // MP.v
-    1, // MP.p
-    1, // MP.U
-    1, // MP.l
-    1, // MP.a
-    1, // MP.z
-    2, // P.g
-    2, // P.f
-    2, // P.b
-    2, // P.s
-    2, // P.egk
-    2, // P.t
-    2, // P.v
-    2, // P.z
-    3, // A.lanr
-    3, // A.idf
-    3, // A.kik
-    3, // A.n
-    3, // A.s
-    3, // A.z
-    3, // A.c
-    3, // A.p
-    3, // A.e
-    3, // A.t
-    4, // O.ai
-    4, // O.w
-    4, // O.h
-    4, // O.c
-    4, // O.p
-    4, // O.b
-    4, // O.x
-    5, // S.c
-    5, // S.t
-    6, // M.p
-    6, // M.a
-    6, // M.f
-    6, // M.fd
-    6, // M.m
-    6, // M.d
-    6, // M.v
-    6, // M.h
-    6, // M.t
-    6, // M.du
-    6, // M.dud
-    6, // M.i
-    6, // M.r
-    6, // M.x
-    7, // W.w
-    7, // W.s
-    8, // R.t
-    8, // R.x
-    9, // X.t
-];
-
 // Each field's rule, numbered as `rules::obeys` says.
 pub const RULES: [u8; 52] = [
     1, // MP.v
@@ -420,20 +364,6 @@ pub const COUNTS: [u8; 10] = [
     1, // X
 ];
 
-// Each element's name in its tags, as a key; an unknown element has none.
-pub const TAGS: [u64; 10] = [
-    1, // unknown
-    86093, // MP
-    336, // P
-    321, // A
-    335, // O
-    339, // S
-    333, // M
-    343, // W
-    338, // R
-    344, // X
-];
-
 // The names of elements as keys, by the parent that may hold them.
 pub const CHILD_KEYS: [u64; 9] = [
     336, // P in MP
@@ -488,34 +418,6 @@ pub const CHILD_COUNTS: [u8; 11] = [
     0, // R
     0, // X
     1, // outside
-];
-
-// How many of an element its parent may have; 0 is any number.
-pub const MOST_OF: [u8; 10] = [
-    0, // unknown
-    0, // MP
-    1, // P
-    1, // A
-    1, // O
-    0, // S
-    0, // M
-    3, // W
-    0, // R
-    0, // X
-];
-
-// The order inside MP, counted from 1; 0 for an element that stands elsewhere.
-pub const RANKS: [u8; 10] = [
-    0, // unknown
-    0, // MP
-    1, // P
-    2, // A
-    3, // O
-    4, // S
-    0, // M
-    0, // W
-    0, // R
-    0, // X
 ];
 
 // Of each two fields that exclude each other, the place of the one among its element's fields.

@@ -2,22 +2,37 @@
 -- Assumes nothing.
 use mathlib.Core.Path.{_≡_, refl, sym, ap, _∙_}
 use mathlib.Core.Bool.{Bool, true, false, _&&_}
-use mathlib.Core.List.{List, _++_}
-use Prim.Native.Nat.{ℕ, suc, _+_, _-_, _≤_, _<_}
-use native.Mathlib.Nat.{add-zero, add-assoc}
+use mathlib.Core.List.{List, [], _∷_, _++_}
+use Prim.Native.Nat.{ℕ, suc, _+_, _*_, _-_, _≤_, _<_}
+use native.Mathlib.Nat.{add-assoc}
 use native.Mathlib.Numerals.{add-one}
 use native.Mathlib.Omega.{arith}
 use lib.Dec.{eqb}
 use lib.ListN.{length, getD, drop, length-append, drop-of-length-le}
 use lib.Seq.{slice, slice-cons, slice-empty, length-slice, drop-cons}
 use borrow.Author.Tests.{eq-eqb, ne-eqb}
-use Rattle.paper.specs.Lists.{same}
+use Rattle.paper.specs.Lists.{if, bytes, same}
 use Rattle.paper.specs.Values.{esc, escape}
 use Rattle.paper.proofs.Small.{same-eq}
 use Rattle.markup.specs.Laid.{laid}
 use Rattle.markup.proofs.LaidLaws.{Laying, start, told, next-piece, all-laid}
 
 -- ---- spelling
+
+-- a byte of a value is spelled in at most six
+esc-short : (c : ℕ) → length (esc c) ≤ 6
+esc-short c = at (eqb c 38) (eqb c 60) (eqb c 34)
+  where
+    at : (x y z : Bool) → length (if x (bytes "&amp;") (if y (bytes "&lt;") (if z (bytes "&quot;") (c ∷ [])))) ≤ 6
+    at true y z = omega arith
+    at false true z = omega arith
+    at false false true = omega arith
+    at false false false = omega arith
+
+-- a value is spelled in at most six times its bytes
+pub escape-short : (v : List ℕ) → length (escape v) ≤ 6 * length v
+escape-short [] = omega arith
+escape-short (c ∷ v) = omega (arith, length-append (esc c) (escape v), esc-short c, escape-short v)
 
 -- the first byte's spelling, then that of the rest
 pub escape-first : (w : List ℕ) (i to : ℕ) → i < to → to ≤ length w → escape (slice i to w) ≡ esc (getD w i 0) ++ escape (slice (i + 1) to w)
@@ -27,10 +42,6 @@ escape-first w i to h k = rw (add-one, slice-cons i to w 0 h k)
 pub longer : (w : List ℕ) (n i to : ℕ) → i < to → to ≤ length w
     → n + length (escape (slice i to w)) ≡ n + length (esc (getD w i 0)) + length (escape (slice (i + 1) to w))
 longer w n i to h k = rw (escape-first w i to h k, length-append) (sym (add-assoc n (length (esc (getD w i 0))) (length (escape (slice (i + 1) to w)))))
-
--- no byte is left
-pub no-longer : (w : List ℕ) (n i to : ℕ) → i ≡ to → n + length (escape (slice i to w)) ≡ n
-no-longer w n i to e = rw (e, slice-empty to w) (add-zero n)
 
 -- ---- comparing
 

@@ -313,36 +313,6 @@ pub fn decode(page: &[u8], from: usize, to: usize, out: &mut [u8], at: usize) ->
     decode_each(page, from, to, out, at)
 }
 
-// How many bytes a byte of a value takes on a fresh page.
-fn spelled_byte(b: u8) -> usize
-    ensures { λ r. ⌜ (r ≡ length (Paper.esc b)) × (r ≤ 6) ⌝ }
-{
-    if b == 38 {
-        return 5;
-    }
-    if b == 60 {
-        return 4;
-    }
-    if b == 34 {
-        return 6;
-    }
-    1
-}
-
-// How many bytes the value from `from` to `to` takes on a fresh page.
-pub fn spelled_len(text: &[u8], from: usize, to: usize) -> usize
-    requires { ⌜ (from ≤ to) × (to ≤ length (now text)) × (to - from < 2 ^ 32) ⌝ }
-    ensures { λ r. ⌜ r ≡ length (Paper.escape (slice from to (now (text .entry)))) ⌝ }
-{
-    let mut n = 0;
-    let mut i = from;
-    while i < to {
-        n = n + spelled_byte(text[i]);
-        i += 1;
-    }
-    n
-}
-
 // Writes a word into `out` from `n` on, and returns the place behind it. No other byte of `out` changes.
 pub fn lay(out: &mut [u8], n: usize, word: &[u8]) -> usize
     requires { ⌜ n + length (now word) ≤ length (now out) ⌝ }

@@ -2,6 +2,6 @@
 pub mod Stores
 pub mod Spans
 pub mod Shown
-pub mod Kept
+pub mod Parts
 pub mod Doses
 pub mod Worked

@@ -322,16 +322,6 @@ rows-shown t (suc n) rows = ap suc (rows-shown t n (drop 48 rows))
 pub row-next : (t : List ℕ) (n : ℕ) (rows : List ℕ) (i : ℕ) → i < n → drop i (showRows t n rows) ≡ showRow t (recordAt rows i) ∷ drop (i + 1) (showRows t n rows)
 row-next t n rows i h = rows-from t n rows i h ∙ ap (λ (k : ℕ). showRow t (recordAt rows i) ∷ drop k (showRows t n rows)) (sym (add-one i))
 
--- the records of rows and of one row more
-pub rows-appended : (n : ℕ) (rs : List Row) (r : Row) → rowsNumbers n (rs ++ r ∷ []) ≡ rowsNumbers n rs ++ rowNumbers (n + length (concat (rowsValues rs))) r
-rows-appended n [] r = let e : n ≡ n + 0 = omega arith in append-nil (rowNumbers n r) ∙ ap (λ (k : ℕ). rowNumbers k r) e
-rows-appended n (q ∷ rs) r =
-    let m : ℕ = n + length (concat (rowValues q)) in
-    let e : m + length (concat (rowsValues rs)) ≡ n + length (concat (rowValues q ++ rowsValues rs)) =
-    omega (arith, ap length (concat-append (rowValues q) (rowsValues rs)) ∙ length-append (concat (rowValues q)) (concat (rowsValues rs))) in
-    ap (λ (l : List ℕ). rowNumbers n q ++ l) (rows-appended m rs r) ∙ sym (append-assoc (rowNumbers n q) (rowsNumbers m rs) (rowNumbers (m + length (concat (rowsValues rs))) r))
-    ∙ ap (λ (k : ℕ). (rowNumbers n q ++ rowsNumbers m rs) ++ rowNumbers k r) e
-
 -- a row's record has as many numbers as the rows' stride, so rows have as many as their count times that
 pub rows-size : (n : ℕ) (rs : List Row) → length (rowsNumbers n rs) ≡ length rs * 48
 rows-size n [] = refl

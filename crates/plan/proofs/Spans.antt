@@ -1,4 +1,4 @@
--- Spans: laws on the spans of a record: those that it was made of are found in it, and a record is filled span by span, as a head's numbers are; and on parts of spans.
+-- Spans: laws on the spans of a record: those that it was made of are found in it; on a head's numbers, filled span by span; and on parts of spans.
 -- Assumes nothing.
 use mathlib.Core.Path.{_≡_, refl, sym, ap, _∙_}
 use mathlib.Core.Bool.{Bool, true}
@@ -15,7 +15,6 @@ use Rattle.paper.specs.Layout.{Span, shown, shownAll}
 use Rattle.paper.proofs.Small.{both}
 use Rattle.plan.specs.declared.Span as Code
 use Rattle.plan.specs.Numbers.{spanIn, spansIn, spansOf, flat, headNumbers, padded, recordWith, codeSpan}
-use Rattle.plan.specs.Records.{withSpan}
 
 -- an absent value's span
 abbrev pub none : Span
@@ -110,7 +109,7 @@ spans-from (suc m) j k n ss h =
 pub spans-back : (k n : ℕ) (ss : List Span) → spansOf (recordWith k n ss) ≡ padded 19 none ss
 spans-back k n ss = spans-from 19 0 k n ss (omega arith)
 
--- ---- filling a record span by span
+-- ---- the numbers of a head span by span
 
 filled : (m : ℕ) (ss : List Span) (j : ℕ) → j < length ss → 2 * j + 2 ≤ m
     → set (set (padded m 0 (flat (take j ss))) (2 * j) (getD ss j none .at)) (suc (2 * j)) (getD ss j none .len) ≡ padded m 0 (flat (take (suc j) ss))
@@ -122,21 +121,6 @@ filled (suc (suc m)) (s ∷ ss) (suc j) h k =
     let e : 2 * suc j ≡ suc (suc (2 * j)) = omega arith in
     let l : List ℕ = padded (suc (suc m)) 0 (flat (take (suc j) (s ∷ ss))) in
     ap (λ (n : ℕ). set (set l n (getD ss j none .at)) (suc n) (getD ss j none .len)) e ∙ ap (λ (xs : List ℕ). s .at ∷ s .len ∷ xs) (filled m ss j (le-of-suc-le-suc h) (omega arith))
-
--- the next span stored in a record that holds those before it
-pub next-span : (k n : ℕ) (ss : List Span) (j : ℕ) → j < length ss → j < 19
-    → withSpan (recordWith k n (take j ss)) j (codeSpan (getD ss j none)) ≡ recordWith k n (take (suc j) ss)
-unfolding recordWith
-next-span k n ss j h g =
-    let a : 2 + 2 * j ≡ suc (suc (2 * j)) = omega arith in
-    let b : 3 + 2 * j ≡ suc (suc (suc (2 * j))) = omega arith in
-    let s : Span = getD ss j none in
-    let l : List ℕ = padded 46 0 (flat (take j ss)) in
-    ap (λ (m : ℕ). set (set (k ∷ n ∷ l) m (s .at)) (3 + 2 * j) (s .len)) a
-    ∙ ap (λ (m : ℕ). set (set (k ∷ n ∷ l) (suc (suc (2 * j))) (s .at)) m (s .len)) b
-    ∙ ap (λ (xs : List ℕ). k ∷ n ∷ xs) (filled 46 ss j h (omega arith))
-
--- ---- the numbers of a head span by span
 
 -- with the first j spans
 abbrev pub headUpTo : List Span → ℕ → List ℕ

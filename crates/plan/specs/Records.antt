@@ -1,10 +1,10 @@
 -- Records: a row as the code holds it, with its dose taken apart; and what the stores into a row's record leave. Serves this crate's contracts.
 -- Assumes nothing.
 use mathlib.Core.Bool.{_&&_}
-use mathlib.Core.List.{List, [], _∷_, _++_, map}
+use mathlib.Core.List.{List, [], _∷_, _++_}
 use Prim.Native.Nat.{ℕ, zero, suc, _+_, _*_}
 use lib.Dec.{eqb, ltb}
-use lib.ListN.{length, take, drop, getD, set, replicate}
+use lib.ListN.{length, take, drop, getD, replicate}
 use Rattle.paper.specs.Lists.{if}
 use Rattle.paper.specs.Fields as Paper
 use Rattle.paper.specs.Plan as P
@@ -17,7 +17,7 @@ use Rattle.plan.specs.declared.Kind.{Kind}
 use Rattle.plan.specs.declared.Kind.the-variants.{Heading, Medication, Recipe, Note, Unknown}
 use Rattle.plan.specs.declared.Row.{Row}
 use Rattle.plan.specs.declared.Plan.{Plan}
-use Rattle.plan.specs.Numbers.{spanIn, kindShown, kindNumber, paperSpan, codeSpan, padded, recordWith}
+use Rattle.plan.specs.Numbers.{spanIn, kindShown, paperSpan, codeSpan}
 
 -- ---- kinds and doses
 
@@ -91,32 +91,6 @@ textsIn (suc n) j l = codeSpanIn l (textSpan j) ∷ textsIn n (suc j) l
 unfoldable pub rowIn : List ℕ → Row
 rowIn l = record { kind = codeKind (kindShown (getD l 0 0)); «package» = getD l 1 0; dose = doseIn l; texts = textsIn 14 0 l }
 
--- ---- a row laid into its record
-
--- the five spans of a dose
-abbrev pub doseSpans : Dose → List Span
-doseSpans (Scheme x) = x .morning ∷ x .midday ∷ x .evening ∷ x .night ∷ noSpan ∷ []
-doseSpans (Free t) = noSpan ∷ noSpan ∷ noSpan ∷ noSpan ∷ t ∷ []
-doseSpans Unstated = noSpan ∷ noSpan ∷ noSpan ∷ noSpan ∷ noSpan ∷ []
-
--- the 19 spans of a row: the first three texts, the five spans of the dose, and the other eleven texts
-abbrev pub spansWith : List Span → List Span → List Span
-spansWith texts dose = padded 3 noSpan texts ++ (padded 5 noSpan dose ++ padded 11 noSpan (drop 3 texts))
-
--- the 19 spans of a row
-abbrev pub rowSpans : Row → List Span
-rowSpans r = spansWith (r .texts) (doseSpans (r .dose))
-
--- the record of a row
-unfoldable pub recordOf : Row → List ℕ
-recordOf r = recordWith (kindNumber (paperKind (r .kind))) (r .«package») (map paperSpan (rowSpans r))
-
--- a dose as it is read again: times of which none is present, and a free text that is absent, are not stated
-abbrev pub asRead : Dose → Dose
-asRead (Scheme x) = timed x
-asRead (Free t) = if (eqb (t .len) 0) Unstated (Free t)
-asRead Unstated = Unstated
-
 -- ---- stores
 
 -- the numbers p in the place of as many, from `at` on
@@ -126,10 +100,6 @@ laid xs at p = take at xs ++ (p ++ drop (at + length p) xs)
 -- the rows with another record i
 abbrev pub withRecord : List ℕ → ℕ → List ℕ → List ℕ
 withRecord rows i l = laid rows (i * 48) l
-
--- the record with another span j
-abbrev pub withSpan : List ℕ → ℕ → Span → List ℕ
-withSpan l j s = set (set l (2 + 2 * j) (s .at)) (3 + 2 * j) (s .len)
 
 -- the plan without rows and values
 abbrev pub emptyPlan : Plan

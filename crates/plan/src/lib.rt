@@ -4,7 +4,7 @@ ghost use Prim.Native.Nat.{_+_, _*_, _≤_, _<_};
 ghost use mathlib.Core.List.{[], map};
 ghost use lib.ListN.{length, getD};
 ghost use Rattle.plan.specs.Numbers.{recordAt, kindShown, paperSpan, kindNumber, headNumbers, recordWith};
-ghost use Rattle.plan.specs.Records.{paperKind, codeKind, noSpan, codeSpanIn, doseFrom, doseIn, textSpan, textsIn, rowIn, doseSpans, recordOf, laid, withRecord, withSpan, spanOf, spansWith, emptyPlan};
+ghost use Rattle.plan.specs.Records.{paperKind, codeKind, codeSpanIn, doseFrom, doseIn, textSpan, textsIn, rowIn, laid, withRecord, emptyPlan};
 
 // A value in the text: its start and its length. It is absent exactly when the length is 0.
 pub struct Span {
@@ -252,16 +252,6 @@ pub fn open_row(rows: &mut [u32], i: usize, kind: Kind, package: u32)
     lay(rows, i * Plan::STRIDE, &record);
 }
 
-// Puts span j into row i. All other numbers stay.
-pub fn put_span(rows: &mut [u32], i: usize, j: usize, at: u32, len: u32)
-    requires { ⌜ ((i + 1) * 48 ≤ length (now rows)) × (j < 19) ⌝ }
-    ensures { λ _. ⌜ now (rows .exit) ≡ withRecord (now (rows .entry)) i (withSpan (recordAt (now (rows .entry)) i) j (spanOf at len)) ⌝ }
-{
-    let to = i * Plan::STRIDE + 2 + 2 * j;
-    rows[to] = at;
-    rows[to + 1] = len;
-}
-
 // The spans of a head as numbers: span j at number 2 + 2 * j, as in a row's record, behind two that are 0.
 pub fn head_numbers(head: [Span; 27]) -> [u32; 56]
     ensures { λ r. ⌜ r ≡ headNumbers (map paperSpan head) ⌝ }
@@ -275,54 +265,4 @@ pub fn head_numbers(head: [Span; 27]) -> [u32; 56]
         j += 1;
     }
     numbers
-}
-
-// The five spans of a dose: morning, midday, evening, night, free text.
-fn dose_spans(d: Dose) -> [Span; 5]
-    ensures { λ r. ⌜ r ≡ doseSpans d ⌝ }
-{
-    let none = Span { at: 0, len: 0 };
-    match d {
-        Dose::Scheme(x) => {
-            let morning = x.morning;
-            let midday = x.midday;
-            let evening = x.evening;
-            let night = x.night;
-            [morning, midday, evening, night, none]
-        }
-        Dose::Free(t) => [none, none, none, none, t],
-        Dose::Unstated => [none, none, none, none, none],
-    }
-}
-
-// Span j of a row with these texts and these spans of its dose.
-fn placed(texts: [Span; 14], dose: [Span; 5], j: usize) -> Span
-    requires { ⌜ j < 19 ⌝ }
-    ensures { λ r. ⌜ r ≡ getD (spansWith texts dose) j noSpan ⌝ }
-{
-    if j < 3 {
-        return texts[j];
-    }
-    if j < 8 {
-        return dose[j - 3];
-    }
-    texts[j - 5]
-}
-
-// Puts a row into the rows as row i, its whole record. All other records stay.
-pub fn put_row(rows: &mut [u32], i: usize, row: Row)
-    requires { ⌜ (i + 1) * 48 ≤ length (now rows) ⌝ }
-    ensures { λ _. ⌜ now (rows .exit) ≡ withRecord (now (rows .entry)) i (recordOf row) ⌝ }
-{
-    let kind = row.kind;
-    let dose = row.dose;
-    let texts = row.texts;
-    let five = dose_spans(dose);
-    open_row(rows, i, kind, row.package);
-    let mut j = 0;
-    while j < 19 {
-        let s = placed(texts, five, j);
-        put_span(rows, i, j, s.at, s.len);
-        j += 1;
-    }
 }

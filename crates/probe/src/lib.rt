@@ -18,7 +18,6 @@ use markup::scan::Extent;
 use markup::scan::scan;
 use markup::values::decode;
 use markup::values::spell;
-use markup::values::spelled_len;
 use markup::walk::Mark;
 use markup::walk::Piece;
 use markup::walk::next_attr;
@@ -70,13 +69,10 @@ pub extern "C" fn probe_value(raw: &[u8], out: &mut [u8]) -> u64 {
     decode(raw, 0, raw.len(), out, 0) as u64
 }
 
-// The fresh spelling of a value, laid at the beginning of `out`: its length, or a million if the room is too small or the value too long.
+// The fresh spelling of a value, laid at the beginning of `out`: its length, or a million if the room has less than six times the bytes of the value.
 #[no_mangle]
 pub extern "C" fn probe_spell(value: &[u8], out: &mut [u8]) -> u64 {
-    if value.len() > 100000 {
-        return 1000000;
-    }
-    if out.len() < spelled_len(value, 0, value.len()) {
+    if out.len() / 6 < value.len() {
         return 1000000;
     }
     spell(value, 0, value.len(), out, 0) as u64

@@ -26,7 +26,7 @@ use Rattle.plan.specs.Records.{paperKind, codeKind, doseIn, paperDose, codeSpan
 use Rattle.plan.specs.declared.Times.{Times}
 use Rattle.plan.specs.declared.Kind as Code
 use Rattle.plan.specs.declared.Dose.the-variants.{Scheme, Free, Unstated}
-use Rattle.plan.proofs.Kept.{kind-is}
+use Rattle.plan.proofs.Parts.{kind-is}
 use Rattle.plan.proofs.Doses.{shows, each-span, dose-is}
 use Rattle.sound.specs.Sound.{recordSound}
 use Rattle.listing.specs.Numbered.{spanAt, spansAt, fieldsFrom, spanPlace}

@@ -6,13 +6,12 @@ use mathlib.Core.List.{List, [], _∷_, _++_, map, append-assoc, append-nil}
 use Prim.Native.Nat.{ℕ, _+_, _*_, _≤_, _<_}
 use native.Mathlib.Numerals.{add-one}
 use native.Mathlib.Omega.{arith}
-use lib.Dec.{eqb, leb}
+use lib.Dec.{leb}
 use lib.ListN.{length, take, drop, getD, set, replicate, length-append, length-set, drop-of-length-le}
 use lib.Seq.{take-suc-set}
 use borrow.Author.Tests.{leb-true}
-use Rattle.paper.specs.Lists.{if, every, bytes}
+use Rattle.paper.specs.Lists.{if, every}
 use Rattle.paper.specs.Fields.{Kind, MP, P, A, O, S, M, W, R, X, is, Field, fieldsOf, tagName}
-use Rattle.paper.specs.Values.{esc, escape}
 use Rattle.paper.specs.Plan.{Slots, Head, Row}
 use Rattle.paper.specs.Judging.{allEmpty}
 use Rattle.paper.specs.Writing.{goodSlot, goodSlots, goodElement, soundHead, soundRow, mpSlots, decimal, spelled, bare, opening, closing, wsText, bodyText, measuresText, heading, page}
@@ -22,28 +21,15 @@ use Rattle.paper.proofs.ReadSound.{keeping}
 use Rattle.paper.proofs.Rows.{View, head, med, rec, free, view}
 use Rattle.paper.proofs.Sheets.{head-sound}
 use Rattle.paper.proofs.Sizes.{slotSize, slotSizes, attrs-size}
+use Rattle.markup.proofs.Spells.{escape-short}
 use Rattle.plan.specs.Numbers.{recordAt, showRow, showRows, kindShown}
 use Rattle.plan.specs.Records.{paperKind, codeKind}
 use Rattle.plan.proofs.Shown.{rows-shown, row-next}
-use Rattle.plan.proofs.Kept.{kind-is}
+use Rattle.plan.proofs.Parts.{kind-is}
 use Rattle.writer.specs.Spelling.{rowText}
 use Rattle.writer.specs.Cutting.{measureOf}
 
 -- ---- values and elements
-
--- a byte of a value is spelled in at most six
-esc-short : (c : ℕ) → length (esc c) ≤ 6
-esc-short c = at (eqb c 38) (eqb c 60) (eqb c 34)
-  where
-    at : (x y z : Bool) → length (if x (bytes "&amp;") (if y (bytes "&lt;") (if z (bytes "&quot;") (c ∷ [])))) ≤ 6
-    at true y z = omega arith
-    at false true z = omega arith
-    at false false true = omega arith
-    at false false false = omega arith
-
-escape-short : (v : List ℕ) → length (escape v) ≤ 6 * length v
-escape-short [] = omega arith
-escape-short (c ∷ v) = omega (arith, length-append (esc c) (escape v), esc-short c, escape-short v)
 
 -- the most that the fields of an element take
 abbrev pub mostOf : List Field → ℕ

@@ -7,7 +7,7 @@ use Rattle.fields.specs.Places.{kindAt}
 use Rattle.plan.specs.Numbers.{kindShown}
 use Rattle.plan.specs.Records.{paperKind}
 use Rattle.plan.specs.declared.Kind.{Kind}
-use Rattle.plan.proofs.Kept.{kind-is}
+use Rattle.plan.proofs.Parts.{kind-is}
 use Rattle.sound.proofs.RecordLaws.{heading-is, medication-is, recipe-is, note-is, unknown-is, row-counts}
 use borrow.Author.Needs.{needs}
 use Rattle.sound.proofs.records.record_sound.Statement.{statement}
