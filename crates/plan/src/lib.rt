@@ -1,4 +1,7 @@
 // A plan as numbers: the head by value, the rows as records of 48 numbers in a lent slice. specs/Numbers.antt says which plan they show.
+// `rooms` says what the caller lends.
+pub mod rooms;
+
 ghost use mathlib.Core.Path.{_≡_};
 ghost use Prim.Native.Nat.{_+_, _*_, _≤_, _<_};
 ghost use mathlib.Core.List.{[], map};
@@ -57,10 +60,14 @@ impl Plan {
     pub const ROWS: usize = 256;
     // How many numbers a row's record has.
     pub const STRIDE: usize = 48;
+    // The most bytes that a page has.
+    pub const PAGE: usize = 1400;
+    // The numbers for rows that the caller lends.
+    pub const NUMBERS: usize = Plan::ROWS * Plan::STRIDE;
     // The bytes of text that the caller lends.
     pub const TEXT: usize = 12600;
-    // The bytes for pages that the caller lends.
-    pub const PAGES: usize = 12600;
+    // The bytes for pages that the caller lends: nine full ones.
+    pub const PAGES: usize = 9 * Plan::PAGE;
     // The bytes for a listing of pages that the caller lends.
     pub const LISTING: usize = 25200;
 

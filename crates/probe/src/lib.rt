@@ -22,6 +22,7 @@ use markup::walk::Mark;
 use markup::walk::Piece;
 use markup::walk::next_attr;
 use markup::walk::next_tag;
+use plan::Plan;
 use plan::Span;
 use reader::answer::refusal_number;
 use reader::answer::refusal_page;
@@ -50,7 +51,7 @@ pub extern "C" fn probe_first_refused(s: &[u8]) -> usize
 // How many bytes of a page of at most 1,400 are a good beginning; 2,000 for a whole page, and 3,000 for one that is too long.
 #[no_mangle]
 pub extern "C" fn probe_scan(page: &[u8]) -> usize {
-    if page.len() > 1400 {
+    if page.len() > Plan::PAGE {
         return 3000;
     }
     let extent = scan(page);
@@ -168,7 +169,7 @@ pub extern "C" fn probe_keeps(id: usize, value: &[u8]) -> u8 {
 // The refusal number of a page, 2 to 8, with its place in `told`; 0 if the page has no fault.
 #[no_mangle]
 pub extern "C" fn probe_judge(page: &[u8], told: &mut [usize; 1]) -> u8 {
-    let mut scratch = [0u8; 1400];
+    let mut scratch = [0u8; Plan::PAGE];
     let verdict = judge_page(page, &mut scratch);
     match verdict {
         Verdict::Refused { number, place } => {

@@ -105,14 +105,6 @@ pages-from b (s ∷ ss) (n ∷ ns) (suc i) h g = pages-from b ss ns i (omega ari
 
 -- ---- the room
 
--- too few numbers for 256 rows
-pub few-numbers : (numbers text : ℕ) → numbers < 12288 → roomy (rowsLent numbers) text ≡ false
-few-numbers numbers text h = ap (λ (x : Bool). x && leb textRoom text) (lt-leb rowRoom (rowsLent numbers) (omega arith))
-
--- numbers enough: the text decides
-pub enough-numbers : (numbers text : ℕ) → 12288 ≤ numbers → roomy (rowsLent numbers) text ≡ leb textRoom text
-enough-numbers numbers text h = ap (λ (x : Bool). x && leb textRoom text) (le-leb rowRoom (rowsLent numbers) (omega arith))
-
 -- the room that a caller may rely on
 pub room-fits : (numbers text : ℕ) → roomy (rowsLent numbers) text ≡ true → (12288 ≤ numbers) × (12600 ≤ text)
 room-fits numbers text e =

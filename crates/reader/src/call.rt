@@ -6,6 +6,8 @@ ghost use lib.Dec.{leb};
 ghost use lib.ListN.{length};
 ghost use Rattle.paper.specs.Calls.{inside, roomy};
 ghost use Rattle.plan.specs.Numbers.{rowsLent};
+use plan::rooms::rows_fit;
+use plan::rooms::text_fits;
 
 // Whether a page of that start and length lies in a buffer of so many bytes. No start and no length is too large to ask for.
 pub fn lies_in(size: usize, start: usize, len: usize) -> bool
@@ -54,8 +56,8 @@ pub fn call_fits(buffer: &[u8], starts: &[usize], lens: &[usize]) -> bool
 pub fn room_fits(row_numbers: usize, text: usize) -> bool
     ensures { λ r. ⌜ r ≡ roomy (rowsLent «row_numbers») text ⌝ }
 {
-    if row_numbers < 256 * 48 {
+    if !rows_fit(row_numbers) {
         return false;
     }
-    12600 <= text
+    text_fits(text)
 }

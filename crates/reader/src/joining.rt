@@ -7,7 +7,7 @@ ghost use lib.Dec.{eqb};
 ghost use lib.ListN.{length, take, getD};
 ghost use Rattle.paper.specs.Plan.{sameHead};
 ghost use Rattle.paper.specs.Reading.{joined, rowsAt};
-ghost use Rattle.paper.specs.Calls.{inside, pagesAt};
+ghost use Rattle.paper.specs.Calls.{rowRoom, textRoom, inside, pagesAt};
 ghost use Rattle.paper.specs.Layout.{textOf, rowsValues};
 ghost use Rattle.plan.specs.Numbers.{planNumbers, planRows};
 ghost use Rattle.markup.specs.Laid.{laid};
@@ -49,7 +49,7 @@ fn number_at<'a>(buffer: &'a [u8], starts: &'a [usize], lens: &'a [usize], i: us
     requires { ⌜ (i < length (now starts)) × Called (now buffer) (now starts) (now lens) ⌝ }
     ensures { λ r. ⌜ r ≡ sheetAt (pagesAt (now (buffer .entry)) (now (starts .entry)) (now (lens .entry))) i .no ⌝ }
 {
-    let mut scratch = [0u8; 1400];
+    let mut scratch = [0u8; Plan::PAGE];
     let page = page_at(buffer, starts, lens, i);
     let no = number_of(page, &mut scratch);
     no as u8
@@ -60,7 +60,7 @@ fn count_at<'a>(buffer: &'a [u8], starts: &'a [usize], lens: &'a [usize], i: usi
     requires { ⌜ (i < length (now starts)) × Called (now buffer) (now starts) (now lens) ⌝ }
     ensures { λ r. ⌜ r ≡ sheetAt (pagesAt (now (buffer .entry)) (now (starts .entry)) (now (lens .entry))) i .of ⌝ }
 {
-    let mut scratch = [0u8; 1400];
+    let mut scratch = [0u8; Plan::PAGE];
     let page = page_at(buffer, starts, lens, i);
     let of = count_said(page, &mut scratch);
     of as u8
@@ -90,9 +90,9 @@ pub fn same_heads<'a>(a: &'a [u8], b: &'a [u8]) -> bool
     requires { ⌜ PageFits (now a) × PageFits (now b) ⌝ }
     ensures { λ r. ⌜ r ≡ sameHead (headFrom (tagsAt (now (b .entry)) 0)) (headFrom (tagsAt (now (a .entry)) 0)) ⌝ }
 {
-    let mut scratch = [0u8; 1400];
-    let mut one = [0u8; 1400];
-    let mut two = [0u8; 1400];
+    let mut scratch = [0u8; Plan::PAGE];
+    let mut one = [0u8; Plan::PAGE];
+    let mut two = [0u8; Plan::PAGE];
     let h = lay_head(a, &mut scratch, &mut one, 0);
     let k = lay_head(b, &mut scratch, &mut two, 0);
     if h.patch != k.patch {
@@ -103,7 +103,7 @@ pub fn same_heads<'a>(a: &'a [u8], b: &'a [u8]) -> bool
     if !same_spans(x, y) {
         return false;
     }
-    spells(&one, 0, 1400, &two)
+    spells(&one, 0, Plan::PAGE, &two)
 }
 
 // Whether the count and the head of page i are the first page's.
@@ -189,7 +189,7 @@ fn rows_of<'a>(
     if i == n {
         return 0;
     }
-    let mut scratch = [0u8; 1400];
+    let mut scratch = [0u8; Plan::PAGE];
     let page = page_at(buffer, starts, lens, i);
     let count = count_rows(page, &mut scratch);
     count as usize
@@ -241,7 +241,7 @@ fn fill_number<'a>(
     if p == count {
         return Filled { end: n, row: i };
     }
-    let mut scratch = [0u8; 1400];
+    let mut scratch = [0u8; Plan::PAGE];
     let page = page_at(buffer, starts, lens, p);
     fill_rows(page, &mut scratch, rows, text, n, i)
 }
@@ -290,13 +290,13 @@ pub fn fill_all<'a>(
         × AllFit (pagesAt (now buffer) (now starts) (now lens))
         × (nosOf (sheetsOf (pagesAt (now buffer) (now starts) (now lens))) ≡ take (length (now starts)) nos)
         × (z ≡ countSaid (sheetsOf (pagesAt (now buffer) (now starts) (now lens)))) × (z ≤ 9)
-        × (length (planIn (sheetsOf (pagesAt (now buffer) (now starts) (now lens))) noPlan .rows) ≤ 256) × (12288 ≤ length (now rows))
-        × (length (textOf (planIn (sheetsOf (pagesAt (now buffer) (now starts) (now lens))) noPlan)) ≤ 12600) × (12600 ≤ length (now text)) ⌝ }
+        × (length (planIn (sheetsOf (pagesAt (now buffer) (now starts) (now lens))) noPlan .rows) ≤ rowRoom) × (rowRoom * 48 ≤ length (now rows))
+        × (length (textOf (planIn (sheetsOf (pagesAt (now buffer) (now starts) (now lens))) noPlan)) ≤ textRoom) × (textRoom ≤ length (now text)) ⌝ }
     ensures { λ r. ⌜ (r ≡ planNumbers (planIn (sheetsOf (pagesAt (now (buffer .entry)) (now (starts .entry)) (now (lens .entry)))) noPlan))
         × (now (text .exit) ≡ laid (now (text .entry)) 0 (textOf (planIn (sheetsOf (pagesAt (now (buffer .entry)) (now (starts .entry)) (now (lens .entry)))) noPlan)))
         × (now (rows .exit) ≡ laid (now (rows .entry)) 0 (planRows (planIn (sheetsOf (pagesAt (now (buffer .entry)) (now (starts .entry)) (now (lens .entry)))) noPlan))) ⌝ }
 {
-    let mut scratch = [0u8; 1400];
+    let mut scratch = [0u8; Plan::PAGE];
     let first = page_at(buffer, starts, lens, 0);
     let head = lay_head(first, &mut scratch, text, 0);
     let filled = fill_pages(buffer, starts, lens, nos, z, rows, text, head.end);

@@ -34,7 +34,7 @@ pub fn judge_all<'a>(buffer: &'a [u8], starts: &'a [usize], lens: &'a [usize]) -
     requires { ⌜ (length (now starts) ≤ 9) × (inside (now buffer) (now starts) (now lens) ≡ true) ⌝ }
     ensures { λ r. ⌜ numbersOf r ≡ toldOf (judgeAll 1 (pagesAt (now (buffer .entry)) (now (starts .entry)) (now (lens .entry)))) ⌝ }
 {
-    let mut scratch = [0u8; 1400];
+    let mut scratch = [0u8; Plan::PAGE];
     let n = starts.len();
     let mut i = 0;
     while i < n {

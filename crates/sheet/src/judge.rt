@@ -22,6 +22,7 @@ use markup::scan::Extent;
 use markup::scan::scan;
 use markup::walk::Mark;
 use markup::walk::next_tag;
+use plan::Plan;
 
 // The answer for a page.
 pub enum Verdict {
@@ -102,7 +103,7 @@ pub fn judge_page(page: &[u8], scratch: &mut [u8]) -> Verdict
             place: 0,
         };
     }
-    if n > 1400 {
+    if n > Plan::PAGE {
         return Verdict::Refused {
             number: 2,
             place: 0,

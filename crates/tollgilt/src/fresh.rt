@@ -1,6 +1,8 @@
 // Fresh: the pages of a call to the fresh pages of their plan, or to the one refusal that document 01 has for them.
 ghost use mathlib.Core.Path.{_≡_};
 ghost use Rattle.tollgilt.specs.Fresh.{Promised, answered, refusedWith};
+use plan::Plan;
+use plan::rooms::pages_fit;
 use reader::answer::refusal_number;
 use reader::answer::refusal_page;
 use reader::answer::refusal_place;
@@ -43,11 +45,11 @@ pub fn fresh_pages<'a>(
 ) -> Fresh
     ensures { λ r. ⌜ Promised (answered (now (out .entry)) (now (buffer .entry)) (now (starts .entry)) (now (lens .entry))) (now (out .entry)) r (now (out .exit)) ⌝ }
 {
-    if out.len() < 12600 {
+    if !pages_fit(out.len()) {
         return refused(1, 0, 0);
     }
-    let mut rows = [0u32; 12288];
-    let mut text = [0u8; 12600];
+    let mut rows = [0u32; Plan::NUMBERS];
+    let mut text = [0u8; Plan::TEXT];
     let reading = read(buffer, starts, lens, &mut rows, &mut text);
     let answer = reading.answer;
     let number = refusal_number(answer);

@@ -1,6 +1,8 @@
 // List: the pages of a call to the listing of their plan, or to the one refusal that document 01 has for them.
 ghost use Rattle.tollgilt.specs.Promise.{Promised, answered};
 use listing::rows::list_plan;
+use plan::Plan;
+use plan::rooms::listing_fits;
 use reader::answer::Answer;
 use reader::answer::refusal_number;
 use reader::reading::read;
@@ -21,14 +23,14 @@ pub fn list_pages<'a>(
 ) -> Listed
     ensures { λ r. ⌜ Promised (answered (now (out .entry)) (now (buffer .entry)) (now (starts .entry)) (now (lens .entry))) (now (out .entry)) r (now (out .exit)) ⌝ }
 {
-    if out.len() < 25200 {
+    if !listing_fits(out.len()) {
         return Listed {
             answer: Answer::NoRoom,
             length: 0,
         };
     }
-    let mut rows = [0u32; 12288];
-    let mut text = [0u8; 12600];
+    let mut rows = [0u32; Plan::NUMBERS];
+    let mut text = [0u8; Plan::TEXT];
     let reading = read(buffer, starts, lens, &mut rows, &mut text);
     let answer = reading.answer;
     if refusal_number(answer) != 0 {
@@ -38,9 +40,10 @@ pub fn list_pages<'a>(
         };
     }
     let plan = reading.plan;
-    let length = list_plan(plan, &rows, &text, out);
+    let bytes = list_plan(plan, &rows, &text, out);
+    let length = bytes as u32;
     Listed {
         answer: answer,
-        length: length as u32,
+        length: length,
     }
 }

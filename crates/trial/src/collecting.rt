@@ -17,6 +17,7 @@ use collector::lacks::missing_numbers;
 use collector::reading::read;
 use collector::store::Collector;
 use collector::store::clear;
+use plan::Plan;
 
 // The answer to a page that is not refused.
 fn tell_number(n: u32) {
@@ -62,8 +63,8 @@ fn add_given(c: Collector, given: &[u8], len: usize) -> Collector {
 
 // Reads what is collected.
 fn read_all(c: Collector) {
-    let mut rows = [0u32; 12288];
-    let mut text = [0u8; 12600];
+    let mut rows = [0u32; Plan::NUMBERS];
+    let mut text = [0u8; Plan::TEXT];
     let r = read(c, &mut rows, &mut text);
     let a = r.answer;
     tell_answer(a);

@@ -133,7 +133,7 @@ fn text_kept(text: &[u8], from: usize) -> bool {
 }
 
 // The rooms after a call: the plan's rows and text, and whether the rest is kept.
-fn tell_rooms(rows: &[u32; 12288], text: &[u8; 12600], count: usize, head_end: usize) {
+fn tell_rooms(rows: &[u32; Plan::NUMBERS], text: &[u8; Plan::TEXT], count: usize, head_end: usize) {
     let n = least(count, Plan::ROWS);
     let last = least(tell_rows(rows, n, head_end), Plan::TEXT);
     word(b"text");
@@ -148,8 +148,8 @@ fn tell_rooms(rows: &[u32; 12288], text: &[u8; 12600], count: usize, head_end: u
 
 // Reads the pages of a call and prints all that it gives.
 fn call<'a>(input: &'a [u8], starts: &'a [usize], lens: &'a [usize]) {
-    let mut rows = [ROW_PATTERN; 12288];
-    let mut text = [TEXT_PATTERN; 12600];
+    let mut rows = [ROW_PATTERN; Plan::NUMBERS];
+    let mut text = [TEXT_PATTERN; Plan::TEXT];
     let r = read(input, starts, lens, &mut rows, &mut text);
     let a = r.answer;
     tell_answer(a);

@@ -3,6 +3,7 @@ ghost use mathlib.Core.Path.{_≡_};
 ghost use Prim.Native.Nat.{_≤_, _<_};
 ghost use lib.ListN.{take};
 ghost use Rattle.writer.specs.Cutting.{sizeIn, opens, cutOf, Tells};
+use plan::Plan;
 
 // The pages of a cut: how many there are, and for each how many rows are placed where it ends. Where nine pages do not take all rows, `place` is the
 // first row, counted from 1, that has no place, and there are no pages; else it is 0.
@@ -11,9 +12,6 @@ pub struct PageEnds {
     pub ends: [usize; 9],
     pub place: usize,
 }
-
-// The most bytes that a page has.
-pub const PAGE: usize = 1400;
 
 // What the row of that number adds to a page.
 fn size_in(m: u32) -> usize
@@ -45,7 +43,7 @@ fn no_place(row: usize) -> PageEnds
 }
 
 // Cuts the first n rows: each page takes as many as fit into 1,400 bytes. The number of a row is twice what it adds to a page, and one more for a heading.
-pub fn cut_rows(base: usize, measures: [u32; 256], n: usize) -> PageEnds
+pub fn cut_rows(base: usize, measures: [u32; Plan::ROWS], n: usize) -> PageEnds
     requires { ⌜ (base ≤ 1400) × (n ≤ 256) ⌝ }
     ensures { λ r. ⌜ Tells r (cutOf base (take n measures)) ⌝ }
 {
@@ -58,14 +56,14 @@ pub fn cut_rows(base: usize, measures: [u32; 256], n: usize) -> PageEnds
         let first = opened(base, measures[i]) + size;
         let more = used + size;
         let j = i + 1;
-        if more <= PAGE {
+        if more <= Plan::PAGE {
             used = more;
             i = j;
         } else {
             if full == 8 {
                 return no_place(j); // Nine pages are begun.
             }
-            if first > PAGE {
+            if first > Plan::PAGE {
                 return no_place(j); // No page is long enough.
             }
             ends[full] = i;

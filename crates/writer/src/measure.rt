@@ -36,11 +36,11 @@ fn row_measure(rows: &[u32], i: usize, text: &[u8], scratch: &mut [u8]) -> u32
 }
 
 // The numbers of the first n rows for the cut.
-pub fn row_measures(rows: &[u32], n: usize, text: &[u8], scratch: &mut [u8]) -> [u32; 256]
+pub fn row_measures(rows: &[u32], n: usize, text: &[u8], scratch: &mut [u8]) -> [u32; Plan::ROWS]
     requires { ⌜ (n ≤ 256) × (n * 48 ≤ length (now rows)) × (recordsSound (now text) n (now rows) ≡ true) × (8192 ≤ length (now scratch)) ⌝ }
     ensures { λ r. ⌜ take n r ≡ map measureOf (showRows (now (text .entry)) n (now (rows .entry))) ⌝ }
 {
-    let mut measures = [0u32; 256];
+    let mut measures = [0u32; Plan::ROWS];
     let mut i = 0;
     while i < n {
         let m = row_measure(rows, i, text, scratch);

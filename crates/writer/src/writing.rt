@@ -5,6 +5,7 @@ ghost use mathlib.Core.List.{map};
 ghost use Prim.Native.Nat.{_*_, _≤_};
 ghost use lib.ListN.{length, take, replicate};
 ghost use Rattle.paper.specs.Lists.{concat};
+ghost use Rattle.paper.specs.Calls.{pageRoom};
 ghost use Rattle.paper.specs.Writing.{pages};
 ghost use Rattle.markup.specs.Laid.{laid};
 ghost use Rattle.plan.specs.Numbers.{rowsLent, showHead, padded};
@@ -12,12 +13,12 @@ ghost use Rattle.sound.specs.Sound.{headSound, recordsSound};
 ghost use Rattle.writer.specs.Cutting.{Rising, parted};
 ghost use Rattle.writer.specs.Promise.{Promised, answered, callFits};
 use crate::answer::Outcome;
-use crate::cut::PAGE;
 use crate::cut::cut_rows;
 use crate::measure::head_size;
 use crate::measure::row_measures;
 use crate::spelling::lay_page;
 use plan::Plan;
+use plan::rooms::pages_fit;
 use sound::first_bad;
 use sound::head_sound;
 
@@ -28,14 +29,11 @@ pub struct Writing {
     pub lens: [u32; 9],
 }
 
-// The least room for pages, in bytes.
-const PAGE_ROOM: usize = 12600;
-
 // Whether the room is enough, and the rows counted are at most 256 and at most those lent. Rows and room are given as slice lengths.
 fn call_fits(count: usize, rows: usize, room: usize) -> bool
     ensures { λ r. ⌜ r ≡ callFits count (rowsLent rows) room ⌝ }
 {
-    if room < PAGE_ROOM {
+    if !pages_fit(room) {
         return false;
     }
     if count > Plan::ROWS {
@@ -67,7 +65,7 @@ fn lay_pages(
 ) -> [u32; 9]
     requires { ⌜ (headSound (now text) plan ≡ true) × (n * 48 ≤ length (now rows)) × (recordsSound (now text) n (now rows) ≡ true) × (z ≤ 9)
         × Rising 0 (take z ends) n
-        × (length (concat (pages (showHead (now text) plan) z 1 (parted (now text) (now rows) 0 (take z ends)))) ≤ 12600) × (12600 ≤ length (now out)) ⌝ }
+        × (length (concat (pages (showHead (now text) plan) z 1 (parted (now text) (now rows) 0 (take z ends)))) ≤ pageRoom) × (pageRoom ≤ length (now out)) ⌝ }
     ensures { λ r. ⌜ (r ≡ padded 9 0 (map length (pages (showHead (now (text .entry)) plan) z 1 (parted (now (text .entry)) (now (rows .entry)) 0 (take z ends)))))
         × (now (out .exit) ≡ laid (now (out .entry)) 0 (concat (pages (showHead (now (text .entry)) plan) z 1 (parted (now (text .entry)) (now (rows .entry)) 0 (take z ends))))) ⌝ }
 {
@@ -104,7 +102,7 @@ pub fn write(plan: Plan, rows: &[u32], text: &[u8], out: &mut [u8]) -> Writing
     }
     let mut scratch = [0u8; 8192];
     let base = head_size(plan, rows, text, &mut scratch);
-    if base > PAGE {
+    if base > Plan::PAGE {
         return refusal(Outcome::TooLong(0));
     }
     let measures = row_measures(rows, n, text, &mut scratch);

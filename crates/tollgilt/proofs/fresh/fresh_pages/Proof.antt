@@ -6,7 +6,8 @@ use native.Mathlib.Omega.{arith}
 use lib.ListN.{length}
 use denote.Ref.{now}
 use borrow.Author.Needs.{needs}
-use Rattle.paper.specs.Calls.{freshCall}
+use borrow.Author.Tests.{leb-true, leb-false, not-true, not-false}
+use Rattle.paper.specs.Calls.{pageRoom, freshCall}
 use Rattle.reader.specs.Promise as Reads
 use Rattle.tollgilt.proofs.ListLaws.{rows₀, text₀}
 use Rattle.tollgilt.proofs.FreshWritten.{no-room, refuses, read-within, not-written, plan-laid}
@@ -14,12 +15,15 @@ use Rattle.tollgilt.proofs.fresh.fresh_pages.Statement.{statement}
 use Rattle.tollgilt.proofs.fresh.fresh_pages.Tie as tie
 
 -- the room is enough
-roomy : (c : tie.Else1) → 12600 ≤ length (now (c .before .before .before .before .before .args .out))
-roomy c = omega (arith, c .if1 .left)
+roomy : (c : tie.Else1) → 12600 ≤ length (now (c .before .before .before .before .before .before .args .out))
+roomy c = leb-true pageRoom _ (sym (c .before .pages-fit .ensures) ∙ not-false _ (c .if1 .left))
+
+pages-fit-requires : tie.Need-pages-fit-requires
+pages-fit-requires c κs = search needs
 
 -- where the call began
 abbrev start : tie.After-read → tie.Start
-start c = c .before .before .before .before .before .before .before .before
+start c = c .before .before .before .before .before .before .before .before .before
 
 -- what reading gives is the call's
 read-at : (c : tie.After-read) → let a = start c .args in Reads.Promised (freshCall (length (now (a .out))) (now (a .buffer)) (now (a .starts)) (now (a .lens))) rows₀ text₀ (c .read .result) (c .read .last .1 .1 .1 .0) (c .read .last .1 .1 .1 .1 .0)
@@ -31,8 +35,8 @@ refused-requires c κs = search needs
 returns : tie.Need-returns
 returns c =
     let T = c .before in
-    let s = T .before .before .before .before .before in
-    refuses _ (now (s .args .out)) _ 1 0 0 (no-room (now (s .args .out)) _ _ _ (omega (arith, T .if1 .taken))) (c .refused .ensures)
+    let s = T .before .before .before .before .before .before in
+    refuses _ (now (s .args .out)) _ 1 0 0 (no-room (now (s .args .out)) _ _ _ (leb-false pageRoom _ (sym (T .before .pages-fit .ensures) ∙ not-true _ (T .if1 .taken)))) (c .refused .ensures)
 
 slice-aggregate-read : tie.Need-slice-aggregate-read
 slice-aggregate-read c = search needs
@@ -94,6 +98,7 @@ pub fresh-pages-spec : {M : Type 1} → statement M
 fresh-pages-spec =
     tie.close
     (tie.spec
+    pages-fit-requires
     refused-requires
     returns
     slice-aggregate-read

@@ -6,18 +6,23 @@ use native.Mathlib.Omega.{arith}
 use lib.ListN.{length}
 use denote.Ref.{now}
 use borrow.Author.Needs.{needs}
+use borrow.Author.Tests.{leb-true, leb-false, not-true, not-false}
+use Rattle.paper.specs.Calls.{listingRoom}
 use Rattle.tollgilt.specs.Promise.{answered}
 use Rattle.tollgilt.proofs.ListLaws.{no-room, nothing-read, nothing-listed, Listable, listable, listed-short, listed}
 use Rattle.tollgilt.proofs.list.list_pages.Statement.{statement}
 use Rattle.tollgilt.proofs.list.list_pages.Tie as tie
 
 -- the room is enough
-roomy : (c : tie.Else1) → 25200 ≤ length (now (c .before .before .before .before .before .args .out))
-roomy c = omega (arith, c .if1 .left)
+roomy : (c : tie.Else1) → 25200 ≤ length (now (c .before .before .before .before .before .before .args .out))
+roomy c = leb-true listingRoom _ (sym (c .before .listing-fits .ensures) ∙ not-false _ (c .if1 .left))
+
+listing-fits-requires : tie.Need-listing-fits-requires
+listing-fits-requires c κs = search needs
 
 -- where the call began
 abbrev start : tie.After-read → tie.Start
-start c = c .before .before .before .before .before .before .before .before
+start c = c .before .before .before .before .before .before .before .before .before
 
 -- reading gave a plan
 plan-at : (c : tie.Else2) → let R = c .before .before .before .before in let a = start R .args in
@@ -28,8 +33,8 @@ plan-at c =
 
 returns : tie.Need-returns
 returns c =
-    let s = c .before .before .before .before .before in
-    nothing-read _ (now (s .args .out)) (no-room (now (s .args .out)) _ _ _ (omega (arith, c .if1 .taken)))
+    let s = c .before .before .before .before .before .before in
+    nothing-read _ (now (s .args .out)) (no-room (now (s .args .out)) _ _ _ (leb-false listingRoom _ (sym (c .before .listing-fits .ensures) ∙ not-true _ (c .if1 .taken))))
 
 slice-aggregate-read : tie.Need-slice-aggregate-read
 slice-aggregate-read c = search needs
@@ -57,8 +62,8 @@ slice-aggregate-list-plan-2 c = search needs
 list-plan-requires : tie.Need-list-plan-requires
 list-plan-requires c κs = plan-at (c .before .before .before .before) .asked
 
-cast-t18 : tie.Need-cast-t18
-cast-t18 c =
+cast-length : tie.Need-cast-length
+cast-length c =
     let L = c .before .before in
     omega (arith, L .list-plan .ensures .0, listed-short (plan-at (L .before .before .before .before .before)))
 
@@ -74,6 +79,7 @@ pub list-pages-spec : {M : Type 1} → statement M
 list-pages-spec =
     tie.close
     (tie.spec
+    listing-fits-requires
     returns
     slice-aggregate-read
     slice-aggregate-read-2
@@ -83,6 +89,6 @@ list-pages-spec =
     slice-aggregate-list-plan
     slice-aggregate-list-plan-2
     list-plan-requires
-    cast-t18
+    cast-length
     same-length
     returns-3)
