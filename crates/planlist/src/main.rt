@@ -4,12 +4,16 @@
 // gives a status above 0 where its output is not written.
 use libc::STDIN_FILENO;
 use libc::STDOUT_FILENO;
+use plan::Plan;
+use tollgilt::input::INPUT;
 use tollgilt::input::list_input;
+use tollgilt::input::printed_len;
 
 fn main() {
-    let mut input = [0u8; 12609];
+    let mut input = [0u8; INPUT];
     let n = io::read_full(STDIN_FILENO, &mut input);
-    let mut out = [0u8; 25200];
-    let k = list_input(&input[..n], &mut out);
+    let mut out = [0u8; Plan::LISTING];
+    let printed = list_input(&input[..n], &mut out);
+    let k = printed_len(printed);
     io::write_all(STDOUT_FILENO, &out[..k]);
 }

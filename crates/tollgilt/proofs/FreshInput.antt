@@ -19,14 +19,14 @@ use Rattle.paper.proofs.Rooms.{refusal-short}
 use Rattle.paper.proofs.Writer.{room}
 use Rattle.markup.specs.Laid.{laid}
 use Rattle.tollgilt.specs.Fresh.{Answer, refusal, pages, writes, afresh, answered, given, bytesTold, pagesIn}
-use Rattle.tollgilt.specs.Printed.{separated, freshLines, planfresh, separatedRoom, freshPrinted}
+use Rattle.tollgilt.specs.Printed as Printing
+use Rattle.tollgilt.specs.Printed.{separated, freshLines, planfresh, prints, separatedRoom, freshAnswer, lengthOf, lengthTold, Prints}
 use Rattle.tollgilt.specs.declared.fresh.Fresh.{Fresh}
+use Rattle.tollgilt.specs.declared.input.Printed.{Printed}
+use Rattle.tollgilt.specs.declared.input.Printed.the-variants.{Bytes}
 use Rattle.tollgilt.proofs.FreshLaws.{Gives, roomy-call, bytes-told, written-in, cut-in, Freshly, freshly}
 use Rattle.tollgilt.proofs.JoinLaws.{separated-short}
-
--- a length and a room in which just so much is printed
-abbrev pub FreshPrints : List ℕ → List ℕ → List ℕ → ℕ → Type 0
-FreshPrints out input out′ r = (r ≡ length (freshPrinted out input)) × (out′ ≡ laid out 0 (freshPrinted out input))
+use Rattle.tollgilt.proofs.InputLaws.{bytes-printed}
 
 -- ---- what is printed fits
 
@@ -43,20 +43,20 @@ answer-short (Paper.refusal n k i) = omega (arith, refusal-short n k i)
 answer-short (Paper.plan p) = lines-short p (fresh p) refl
 
 -- what is printed is never longer than the room
-pub fresh-printed-fits : (out input : List ℕ) (r : ℕ) → r ≡ length (freshPrinted out input) → r ≤ length out
-unfolding freshPrinted planfresh
-fresh-printed-fits out input r = at (leb separatedRoom (length out)) refl
+pub fresh-fits : (out input : List ℕ) (r : Printed) (out′ : List ℕ) → Prints (freshAnswer out input) out r out′ → lengthOf r ≤ length out
+unfolding freshAnswer planfresh
+fresh-fits out input r out′ P = at (leb separatedRoom (length out)) refl (P .length-is)
   where
-    at : (b : Bool) → leb separatedRoom (length out) ≡ b → r ≡ length (if b (freshLines (afresh (read (parted (take 12609 input))))) []) → r ≤ length out
+    at : (b : Bool) → leb separatedRoom (length out) ≡ b → lengthOf r ≡ lengthTold (if b (prints (freshLines (afresh (read (parted (take 12609 input)))))) (Printing.refusal 1 0 0)) → lengthOf r ≤ length out
     at true e q = omega (arith, leb-true separatedRoom (length out) e, answer-short (read (parted (take 12609 input))))
     at false e q = omega arith
 
 -- ---- what is printed
 
--- into too little room nothing
-pub none-freshly : (out input : List ℕ) → length out < 12608 → FreshPrints out input out 0
-unfolding freshPrinted
-none-freshly out input h = rw (lt-leb separatedRoom (length out) h) (refl, refl)
+-- too little room is refusal 1
+pub fresh-no-room : (out input : List ℕ) → length out < separatedRoom → freshAnswer out input ≡ Printing.refusal 1 0 0
+unfolding freshAnswer
+fresh-no-room out input h = rw (lt-leb separatedRoom (length out) h)
 
 -- the lines of a refusal
 refusal-lines : (a : Answer) (r : Fresh) → r ≡ given a → (r .number ≡ 0 → ⊥) → refusalLines (r .number) (r .page) (r .place) ≡ freshLines a
@@ -64,20 +64,20 @@ refusal-lines (refusal n k i) r e h = ap (λ (t : Fresh). refusalLines (t .numbe
 refusal-lines (pages f) r e h = absurd (h (ap (λ (t : Fresh). t .number) e))
 
 -- the pages of the input, written afresh into a room
-module _ (out input room₀ ss ns : List ℕ) (r : Fresh) (room₁ : List ℕ) (roomy : 12608 ≤ length out) (enough : length room₀ ≡ 12600)
+module _ (out input room₀ ss ns : List ℕ) (r : Fresh) (room₁ : List ℕ) (roomy : separatedRoom ≤ length out) (enough : length room₀ ≡ 12600)
     (handed-in : readAt true input ss ns ≡ read (parted (take 12609 input))) (F : Gives room₀ input ss ns r room₁) where
-  printed-is : freshPrinted out input ≡ freshLines (answered room₀ input ss ns)
-  unfolding freshPrinted planfresh
-  printed-is =
-      ap (λ (x : Bool). if x (planfresh input) []) (le-leb separatedRoom (length out) roomy)
-      ∙ ap (λ (a : Paper.Answer). freshLines (afresh a)) (sym (roomy-call room₀ input ss ns (omega arith) ∙ handed-in))
+  answer-is : freshAnswer out input ≡ prints (freshLines (answered room₀ input ss ns))
+  unfolding freshAnswer planfresh
+  answer-is =
+      ap (λ (x : Bool). if x (prints (planfresh input)) (Printing.refusal 1 0 0)) (le-leb separatedRoom (length out) roomy)
+      ∙ ap (λ (a : Paper.Answer). prints (freshLines (afresh a))) (sym (roomy-call room₀ input ss ns (omega arith) ∙ handed-in))
 
   module _ (z : r .number ≡ 0) where
     there : Freshly room₀ input ss ns r room₁
     there = freshly room₀ input ss ns r room₁ F z
 
-    lines : freshPrinted out input ≡ separated (pagesIn r room₁)
-    lines = printed-is ∙ (ap (λ (a : Paper.Answer). freshLines (afresh a)) (there .is-plan) ∙ ap (λ (w : Written). freshLines (writes w)) (written-in (there .holds)))
+    lines : freshLines (answered room₀ input ss ns) ≡ separated (pagesIn r room₁)
+    lines = ap (λ (a : Paper.Answer). freshLines (afresh a)) (there .is-plan) ∙ ap (λ (w : Written). freshLines (writes w)) (written-in (there .holds))
 
     -- the pages can be laid anew
     pub joinable : length room₁ ≡ 12600 → (1 ≤ r .pages) × (r .pages ≤ 9) × (bytesTold r ≤ length room₁) × (bytesTold r + r .pages ≤ length out + 1)
@@ -90,8 +90,8 @@ module _ (out input room₀ ss ns : List ℕ) (r : Fresh) (room₁ : List ℕ) (
         (omega arith, omega arith, omega arith, omega arith)
 
     -- pages are printed
-    pub pages-printed : (out′ : List ℕ) (n : ℕ) → (n ≡ length (separated (pagesIn r room₁))) × (out′ ≡ laid out 0 (separated (pagesIn r room₁))) → FreshPrints out input out′ n
-    pages-printed out′ n (u, v) = (u ∙ ap length (sym lines), v ∙ ap (laid out 0) (sym lines))
+    pub pages-printed : (n : ℕ) (out′ : List ℕ) → (n ≡ length (separated (pagesIn r room₁))) × (out′ ≡ laid out 0 (separated (pagesIn r room₁))) → Prints (freshAnswer out input) out (Bytes n) out′
+    pages-printed = bytes-printed (separated (pagesIn r room₁)) out (answer-is ∙ ap prints lines)
 
   module _ (h : r .number ≡ 0 → ⊥) where
     -- the lines of a refusal fit
@@ -99,7 +99,7 @@ module _ (out input room₀ ss ns : List ℕ) (r : Fresh) (room₁ : List ℕ) (
     refused-fits = omega (arith, refusal-short (r .number) (r .page) (r .place))
 
     -- and are printed
-    pub refused-printed : (out′ : List ℕ) (n : ℕ) → (n ≡ length (refusalLines (r .number) (r .page) (r .place))) × (out′ ≡ laid out 0 (refusalLines (r .number) (r .page) (r .place))) → FreshPrints out input out′ n
-    refused-printed out′ n (u, v) =
-        let e = refusal-lines (answered room₀ input ss ns) r (F .result-is) h ∙ sym printed-is in
-        (u ∙ ap length e, v ∙ ap (laid out 0) e)
+    pub refused-printed : (n : ℕ) (out′ : List ℕ) → (n ≡ length (refusalLines (r .number) (r .page) (r .place))) × (out′ ≡ laid out 0 (refusalLines (r .number) (r .page) (r .place)))
+        → Prints (freshAnswer out input) out (Bytes n) out′
+    refused-printed =
+        bytes-printed (refusalLines (r .number) (r .page) (r .place)) out (answer-is ∙ ap prints (sym (refusal-lines (answered room₀ input ss ns) r (F .result-is) h)))

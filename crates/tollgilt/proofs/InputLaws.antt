@@ -20,9 +20,11 @@ use Rattle.paper.proofs.Rooms.{answer-fits}
 use Rattle.markup.specs.Laid.{laid}
 use Rattle.listing.specs.Split.{startsFrom, lengths}
 use Rattle.listing.proofs.Splits.{Split, split-fronts, nine-or-fewer}
-use Rattle.reader.specs.Answers.{numbersOf}
+use Rattle.reader.specs.Answers as Read
 use Rattle.tollgilt.specs.Promise.{Promised, answered}
-use Rattle.tollgilt.specs.Printed.{printed}
+use Rattle.tollgilt.specs.Printed.{Answer, refusal, prints, listAnswer, lengthOf, lengthTold, Prints}
+use Rattle.tollgilt.specs.declared.input.Printed.{Printed}
+use Rattle.tollgilt.specs.declared.input.Printed.the-variants.{Bytes, NoRoom}
 use Rattle.tollgilt.specs.declared.list.Listed.{Listed}
 use Rattle.tollgilt.proofs.ListLaws.{Numbered, read-numbered, list-call}
 
@@ -90,61 +92,66 @@ split-read b m starts₀ lens₀ starts lens r counts w ten =
 
 -- ---- what is printed
 
--- a length and a room in which just so much is printed
-abbrev pub Prints : List ℕ → List ℕ → List ℕ → ℕ → Type 0
-Prints out input out′ r = (r ≡ length (printed out input)) × (out′ ≡ laid out 0 (printed out input))
+-- bytes that are laid in the room are printed
+pub bytes-printed : {a : Answer} (w out : List ℕ) → a ≡ prints w → (n : ℕ) (out′ : List ℕ) → (n ≡ length w) × (out′ ≡ laid out 0 w) → Prints a out (Bytes n) out′
+bytes-printed w out e n out′ (u, v) = rw e (record { answer-is = refl; length-is = u; room-is = v })
+
+-- into too little room nothing
+pub none-printed : {a : Answer} (out : List ℕ) → a ≡ refusal 1 0 0 → Prints a out NoRoom out
+none-printed out e = rw e (record { answer-is = refl; length-is = refl; room-is = refl })
+
+-- ---- what planlist prints
+
+-- too little room is refusal 1
+pub list-no-room : (out input : List ℕ) → leb listingRoom (length out) ≡ false → listAnswer out input ≡ refusal 1 0 0
+unfolding listAnswer
+list-no-room out input h = rw h
 
 -- what is printed is never longer than the room
-pub printed-fits : (out input : List ℕ) (r : ℕ) → r ≡ length (printed out input) → r ≤ length out
-unfolding printed planlist
-printed-fits out input r = at (leb listingRoom (length out)) refl
+pub list-fits : (out input : List ℕ) (r : Printed) (out′ : List ℕ) → Prints (listAnswer out input) out r out′ → lengthOf r ≤ length out
+unfolding listAnswer planlist
+list-fits out input r out′ P = at (leb listingRoom (length out)) refl (P .length-is)
   where
-    at : (b : Bool) → leb listingRoom (length out) ≡ b → r ≡ length (if b (answerLines (read (parted (take 12609 input)))) []) → r ≤ length out
+    at : (b : Bool) → leb listingRoom (length out) ≡ b → lengthOf r ≡ lengthTold (if b (prints (answerLines (read (parted (take 12609 input))))) (refusal 1 0 0)) → lengthOf r ≤ length out
     at true e q = omega (arith, leb-true listingRoom (length out) e, answer-fits (parted (take 12609 input)))
     at false e q = omega arith
 
--- into too little room nothing
-pub none-printed : (out input : List ℕ) → length out < 25200 → Prints out input out 0
-unfolding printed
-none-printed out input h = rw (lt-leb listingRoom (length out) h) (refl, refl)
-
 -- the lines of a listing, of an answer that is a plan
-plan-lines : (a : Paper.Answer) (out out′ : List ℕ) (l : Listed) → Numbered a → Promised a out l out′ → numbersOf (l .answer) .number ≡ 0
+plan-lines : (a : Paper.Answer) (out out′ : List ℕ) (l : Listed) → Numbered a → Promised a out l out′ → Read.numbersOf (l .answer) .number ≡ 0
     → (l .length ≡ length (answerLines a)) × (out′ ≡ laid out 0 (answerLines a))
-plan-lines (Paper.refusal n k i) out out′ l g P z = let e : numbersOf (l .answer) .number ≡ n = ap (λ (t : Numbers). t .number) (P .answer-is) in absurd (omega arith)
+plan-lines (Paper.refusal n k i) out out′ l g P z = let e : Read.numbersOf (l .answer) .number ≡ n = ap (λ (t : Numbers). t .number) (P .answer-is) in absurd (omega arith)
 plan-lines (Paper.plan p) out out′ l g P z = (P .length-is, P .room-is)
 
 -- the lines of a refusal
-refusal-lines : (a : Paper.Answer) (out out′ : List ℕ) (l : Listed) → Promised a out l out′ → (numbersOf (l .answer) .number ≡ 0 → ⊥)
-    → (refusalLines (numbersOf (l .answer) .number) (numbersOf (l .answer) .page) (numbersOf (l .answer) .place) ≡ answerLines a) × (out′ ≡ out)
+refusal-lines : (a : Paper.Answer) (out out′ : List ℕ) (l : Listed) → Promised a out l out′ → (Read.numbersOf (l .answer) .number ≡ 0 → ⊥)
+    → (refusalLines (Read.numbersOf (l .answer) .number) (Read.numbersOf (l .answer) .page) (Read.numbersOf (l .answer) .place) ≡ answerLines a) × (out′ ≡ out)
 refusal-lines (Paper.refusal n k i) out out′ l P h = (ap (λ (t : Numbers). refusalLines (t .number) (t .page) (t .place)) (P .answer-is), P .room-is)
 refusal-lines (Paper.plan p) out out′ l P h = absurd (h (ap (λ (t : Numbers). t .number) (P .answer-is)))
 
-module _ (out input ss ns out′ : List ℕ) (l : Listed) (room : 25200 ≤ length out) (handed-in : readAt true input ss ns ≡ read (parted (take 12609 input))) (P : Promised (answered out input ss ns) out l out′) where
+module _ (out input ss ns out′ : List ℕ) (l : Listed) (room : leb listingRoom (length out) ≡ true) (handed-in : readAt true input ss ns ≡ read (parted (take 12609 input)))
+    (P : Promised (answered out input ss ns) out l out′) where
   abbrev answer : Paper.Answer
   answer = read (parted (take 12609 input))
 
   listed-as : Promised answer out l out′
-  listed-as = subst (λ (a : Paper.Answer). Promised a out l out′) (list-call out input ss ns room ∙ handed-in) P
+  listed-as = subst (λ (a : Paper.Answer). Promised a out l out′) (list-call out input ss ns (leb-true listingRoom (length out) room) ∙ handed-in) P
 
-  printed-is : printed out input ≡ answerLines answer
-  unfolding printed planlist
-  printed-is = rw (le-leb listingRoom (length out) room)
+  answer-is : listAnswer out input ≡ prints (answerLines answer)
+  unfolding listAnswer planlist
+  answer-is = rw room
 
   -- a listing
-  pub plan-printed : numbersOf (l .answer) .number ≡ 0 → Prints out input out′ (l .length)
-  plan-printed z =
-      let (a, b) = plan-lines answer out out′ l (read-numbered (parted (take 12609 input))) listed-as z in
-      (a ∙ ap length (sym printed-is), b ∙ ap (laid out 0) (sym printed-is))
+  pub plan-printed : Read.numbersOf (l .answer) .number ≡ 0 → Prints (listAnswer out input) out (Bytes (l .length)) out′
+  plan-printed z = bytes-printed (answerLines answer) out answer-is (l .length) out′ (plan-lines answer out out′ l (read-numbered (parted (take 12609 input))) listed-as z)
 
-  module _ (number page place : ℕ) (u : number ≡ numbersOf (l .answer) .number) (v : page ≡ numbersOf (l .answer) .page) (w : place ≡ numbersOf (l .answer) .place) (h : number ≡ 0 → ⊥) where
-    lines : (refusalLines number page place ≡ printed out input) × (out′ ≡ out)
-    lines = let (a, b) = refusal-lines answer out out′ l listed-as (λ z. h (u ∙ z)) in (rw (u, v, w) (a ∙ sym printed-is), b)
+  module _ (number page place : ℕ) (u : number ≡ Read.numbersOf (l .answer) .number) (v : page ≡ Read.numbersOf (l .answer) .page) (w : place ≡ Read.numbersOf (l .answer) .place) (h : number ≡ 0 → ⊥) where
+    lines : (refusalLines number page place ≡ answerLines answer) × (out′ ≡ out)
+    lines = rw (u, v, w) (refusal-lines answer out out′ l listed-as (λ z. h (u ∙ z)))
 
     -- the refusal's lines fit
     pub refusal-fits : length (refusalLines number page place) ≤ length out′
-    refusal-fits = let (a, b) = lines in rw (a, b) (printed-fits out input (length (printed out input)) refl)
+    refusal-fits = let (a, b) = lines in rw (a, b) (omega (arith, leb-true listingRoom (length out) room, answer-fits (parted (take 12609 input))))
 
     -- a refusal
-    pub refusal-printed : (out″ : List ℕ) (r : ℕ) → (r ≡ length (refusalLines number page place)) × (out″ ≡ laid out′ 0 (refusalLines number page place)) → Prints out input out″ r
-    refusal-printed out″ r q = let (a, b) = lines in (q .0 ∙ ap length a, q .1 ∙ rw (a, b))
+    pub refusal-printed : (n : ℕ) (out″ : List ℕ) → (n ≡ length (refusalLines number page place)) × (out″ ≡ laid out′ 0 (refusalLines number page place)) → Prints (listAnswer out input) out (Bytes n) out″
+    refusal-printed n out″ (x, y) = let (a, b) = lines in bytes-printed (answerLines answer) out answer-is n out″ (x ∙ ap length a, y ∙ rw (a, b))

@@ -1,12 +1,11 @@
 -- Unchanged: "A refusal changes no lent byte or row, and no collector." One statement for each operation, about any result that meets its promise: where the answer
 -- carries a refusal's number, what was lent for writing is as it was. A collector changes where a page is added and nowhere else, so "already here" leaves it too.
 -- `clear` and the empty collector refuse nothing. The missing numbers, the numbers of an answer and the cells are lent nothing for writing. The numbers `told` at the
--- border are a part of the answer: every call sets them. What planlist and planfresh print of a refusal is three lines, so there it is a room too small that stays.
+-- border are a part of the answer: every call sets them. What planlist and planfresh print of a set of pages that is refused is three lines, so of them it is a room too small that is refused.
 -- Assumes nothing.
 use mathlib.Core.Path.{_≡_, refl, ap, _∙_}
 use mathlib.Core.List.{List}
-use Prim.Native.Nat.{ℕ, _<_}
-use lib.ListN.{length}
+use Prim.Native.Nat.{ℕ}
 use Rattle.paper.specs.Reading as Paper
 use Rattle.paper.specs.Reading.{Numbers}
 use Rattle.paper.specs.Writing.{Written, badCall, unsound, tooLong, written}
@@ -27,11 +26,10 @@ use Rattle.writer.specs.declared.answer.Outcome.{Outcome}
 use Rattle.writer.specs.declared.writing.Writing.{Writing}
 use Rattle.tollgilt.specs.Promise as Lists
 use Rattle.tollgilt.specs.Fresh as Fresh
+use Rattle.tollgilt.specs.Printed as Prints
 use Rattle.tollgilt.specs.declared.list.Listed.{Listed}
 use Rattle.tollgilt.specs.declared.fresh.Fresh as Pages
-use Rattle.tollgilt.proofs.InputLaws.{Prints, none-printed}
-use Rattle.tollgilt.proofs.FreshInput.{FreshPrints, none-freshly}
-use Rattle.tollgilt.proofs.Unique.{printed-once, fresh-printed-once}
+use Rattle.tollgilt.specs.declared.input.Printed.{Printed}
 
 -- ---- reading
 
@@ -95,9 +93,13 @@ list-pages-unchanged out b ss ns r out′ P h = P .room-is ∙ not-listed (Lists
 pub tollgilt-list-unchanged : (out b ss ns : List ℕ) (r : ℕ) (out′ told′ : List ℕ) → Lists.Handed (Lists.answered out b ss ns) out r out′ told′ → (r ≡ 0 → ⊥) → out′ ≡ out
 tollgilt-list-unchanged out b ss ns r out′ told′ P h = P .room-is ∙ not-listed (Lists.answered out b ss ns) out (λ e. h (P .number-is ∙ e))
 
--- `list_input`: a room below 25,200 bytes
-pub list-input-unchanged : (out input : List ℕ) (r : ℕ) (out′ : List ℕ) → Prints out input out′ r → length out < 25200 → (r ≡ 0) × (out′ ≡ out)
-list-input-unchanged out input r out′ P h = printed-once out input out′ out r 0 P (none-printed out input h)
+not-printed : (a : Prints.Answer) (out : List ℕ) → (Prints.told a .number ≡ 0 → ⊥) → Prints.roomAfter a out ≡ out
+not-printed (Prints.refusal n k i) out h = refl
+not-printed (Prints.prints w) out h = absurd (h refl)
+
+-- `list_input`: no byte of the room for what is printed
+pub list-input-unchanged : (out input : List ℕ) (r : Printed) (out′ : List ℕ) → Prints.Prints (Prints.listAnswer out input) out r out′ → (Prints.numbersOf r .number ≡ 0 → ⊥) → out′ ≡ out
+list-input-unchanged out input r out′ P h = P .room-is ∙ not-printed (Prints.listAnswer out input) out (λ e. h (ap (λ (t : Numbers). t .number) (P .answer-is) ∙ e))
 
 -- ---- writing afresh
 
@@ -113,6 +115,6 @@ fresh-pages-unchanged out b ss ns r out′ P h = P .room-is ∙ not-fresh (Fresh
 pub tollgilt-fresh-unchanged : (out b ss ns : List ℕ) (r : ℕ) (out′ told′ : List ℕ) → Fresh.Handed (Fresh.answered out b ss ns) out r out′ told′ → (r ≡ 0 → ⊥) → out′ ≡ out
 tollgilt-fresh-unchanged out b ss ns r out′ told′ P h = P .room-is ∙ not-fresh (Fresh.answered out b ss ns) out (λ e. h (P .number-is ∙ e))
 
--- `fresh_input`: a room below 12,608 bytes
-pub fresh-input-unchanged : (out input : List ℕ) (r : ℕ) (out′ : List ℕ) → FreshPrints out input out′ r → length out < 12608 → (r ≡ 0) × (out′ ≡ out)
-fresh-input-unchanged out input r out′ P h = fresh-printed-once out input out′ out r 0 P (none-freshly out input h)
+-- `fresh_input`
+pub fresh-input-unchanged : (out input : List ℕ) (r : Printed) (out′ : List ℕ) → Prints.Prints (Prints.freshAnswer out input) out r out′ → (Prints.numbersOf r .number ≡ 0 → ⊥) → out′ ≡ out
+fresh-input-unchanged out input r out′ P h = P .room-is ∙ not-printed (Prints.freshAnswer out input) out (λ e. h (ap (λ (t : Numbers). t .number) (P .answer-is) ∙ e))

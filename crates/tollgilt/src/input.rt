@@ -8,16 +8,42 @@ ghost use Rattle.paper.specs.Listing.{parted};
 ghost use Rattle.paper.specs.Reading.{read};
 ghost use Rattle.markup.specs.Laid.{laid};
 ghost use Rattle.tollgilt.specs.Fresh.{bytesTold, pagesIn};
-ghost use Rattle.tollgilt.specs.Printed.{printed, freshPrinted, separated};
+ghost use Rattle.tollgilt.specs.Printed.{separated, listAnswer, freshAnswer, lengthOf, Prints};
 use crate::fresh::Fresh;
 use crate::fresh::fresh_pages;
 use crate::list::list_pages;
 use listing::pages::split_pages;
 use listing::refusals::list_refusal;
 use markup::values::lay;
+use plan::Plan;
+use plan::rooms::listing_fits;
 use reader::answer::refusal_number;
 use reader::answer::refusal_page;
 use reader::answer::refusal_place;
+
+// The most bytes of an input that count.
+pub const INPUT: usize = 12609;
+
+// The room for nine full pages and the zero bytes between them.
+pub const SEPARATED: usize = Plan::PAGES + 8;
+
+// What is printed for an input.
+pub enum Printed {
+    // So many bytes, at the beginning of the lent room.
+    Bytes(usize),
+    // Nothing: the lent room is too small.
+    NoRoom,
+}
+
+// How many bytes are printed.
+pub fn printed_len(a: Printed) -> usize
+    ensures { λ r. ⌜ r ≡ lengthOf a ⌝ }
+{
+    match a {
+        Printed::Bytes(n) => n,
+        Printed::NoRoom => 0,
+    }
+}
 
 // The pages of an input, as they are handed in: how many there are, where they begin, and how long they are. Of more than ten, the first ten.
 pub struct Parts {
@@ -30,8 +56,8 @@ pub struct Parts {
 fn counted(input: &[u8]) -> usize
     ensures { λ r. ⌜ (r ≤ length (now (input .entry))) × (take r (now (input .entry)) ≡ take 12609 (now (input .entry))) ⌝ }
 {
-    if input.len() > 12609 {
-        return 12609;
+    if input.len() > INPUT {
+        return INPUT;
     }
     input.len()
 }
@@ -52,15 +78,13 @@ fn split(input: &[u8]) -> Parts
     }
 }
 
-// What planlist prints for its input: the listing of the pages that the input holds, or the three lines of the refusal. It is laid at the beginning of `out`;
-// the answer is its length. Pages are separated by one zero byte, and only the first 12,609 bytes count. A room of less than 25,200 bytes stays as it was,
-// and the answer is 0.
-pub fn list_input(input: &[u8], out: &mut [u8]) -> usize
-    ensures { λ r. ⌜ (r ≡ length (printed (now (out .entry)) (now (input .entry))))
-        × (now (out .exit) ≡ laid (now (out .entry)) 0 (printed (now (out .entry)) (now (input .entry)))) ⌝ }
+// What planlist prints for its input: the listing of the pages that the input holds, or the three lines of their refusal. It is laid at the beginning of `out`.
+// Pages are separated by one zero byte, and only the first 12,609 bytes count. A room of less than 25,200 bytes is refusal 1, and stays as it was.
+pub fn list_input(input: &[u8], out: &mut [u8]) -> Printed
+    ensures { λ r. ⌜ Prints (listAnswer (now (out .entry)) (now (input .entry))) (now (out .entry)) r (now (out .exit)) ⌝ }
 {
-    if out.len() < 25200 {
-        return 0;
+    if !listing_fits(out.len()) {
+        return Printed::NoRoom;
     }
     let parts = split(input);
     let k = parts.pages;
@@ -70,9 +94,11 @@ pub fn list_input(input: &[u8], out: &mut [u8]) -> usize
     let answer = listed.answer;
     let number = refusal_number(answer);
     if number == 0 {
-        return listed.length as usize;
+        let told = listed.length as usize;
+        return Printed::Bytes(told);
     }
-    list_refusal(number, refusal_page(answer), refusal_place(answer), out)
+    let length = list_refusal(number, refusal_page(answer), refusal_place(answer), out);
+    Printed::Bytes(length)
 }
 
 // Lays the pages that were written into a room into `out`, separated by one zero byte, and returns how many bytes that is. All other bytes of `out` stay.
@@ -98,24 +124,24 @@ fn join_pages(fresh: Fresh, room: &[u8], out: &mut [u8]) -> usize
 }
 
 // What planfresh prints for its input: the fresh pages of the pages that the input holds, separated by one zero byte, or the three lines of the refusal. It is
-// laid at the beginning of `out`; the answer is its length. The input is parted as planlist's. A room of less than 12,608 bytes stays as it was, and the
-// answer is 0.
-pub fn fresh_input(input: &[u8], out: &mut [u8]) -> usize
-    ensures { λ r. ⌜ (r ≡ length (freshPrinted (now (out .entry)) (now (input .entry))))
-        × (now (out .exit) ≡ laid (now (out .entry)) 0 (freshPrinted (now (out .entry)) (now (input .entry)))) ⌝ }
+// laid at the beginning of `out`. The input is parted as planlist's. A room of less than 12,608 bytes is refusal 1, and stays as it was.
+pub fn fresh_input(input: &[u8], out: &mut [u8]) -> Printed
+    ensures { λ r. ⌜ Prints (freshAnswer (now (out .entry)) (now (input .entry))) (now (out .entry)) r (now (out .exit)) ⌝ }
 {
-    if out.len() < 12608 {
-        return 0;
+    if out.len() < SEPARATED {
+        return Printed::NoRoom;
     }
     let parts = split(input);
     let k = parts.pages;
     let starts = parts.starts;
     let lens = parts.lens;
-    let mut room = [0u8; 12600];
+    let mut room = [0u8; Plan::PAGES];
     let fresh = fresh_pages(input, &starts[..k], &lens[..k], &mut room);
     let number = fresh.number;
     if number == 0 {
-        return join_pages(fresh, &room, out);
+        let length = join_pages(fresh, &room, out);
+        return Printed::Bytes(length);
     }
-    list_refusal(number, fresh.page, fresh.place, out)
+    let length = list_refusal(number, fresh.page, fresh.place, out);
+    Printed::Bytes(length)
 }

@@ -4,16 +4,17 @@ use mathlib.Core.Path.{_≡_}
 use Prim.Native.Nat.{ℕ, _≤_}
 use native.Mathlib.Omega.{arith}
 use lib.ListN.{length, length-take, length-replicate}
-use Rattle.tollgilt.proofs.FreshInput.{fresh-printed-fits}
+use Rattle.tollgilt.proofs.FreshInput.{fresh-fits}
 use borrow.Author.Needs.{needs}
 use Rattle.planfresh.proofs.main.Statement.{statement}
 use Rattle.planfresh.proofs.main.Tie as tie
 
 -- what is printed lies in the room
-within : (c : tie.After-fresh-input) → c .fresh-input .result ≤ length (c .fresh-input .last .1 .0)
+within : (c : tie.After-printed-len) → c .printed-len .result ≤ length (c .before .before .fresh-input .last .1 .0)
 within c =
-    let long : length (c .fresh-input .last .1 .0) ≡ 12608 = search needs in
-    omega (arith, fresh-printed-fits _ _ _ (c .fresh-input .ensures .0), length-replicate {A = ℕ} 12608 0)
+    let P = c .before .before .fresh-input in
+    let long : length (P .last .1 .0) ≡ 12608 = search needs in
+    omega (arith, c .printed-len .ensures, fresh-fits _ _ _ _ (P .ensures), length-replicate {A = ℕ} 12608 0)
 
 slice-aggregate-read-full : tie.Need-slice-aggregate-read-full
 slice-aggregate-read-full c = search needs
@@ -33,11 +34,14 @@ slice-aggregate-fresh-input-2 c = search needs
 fresh-input-requires : tie.Need-fresh-input-requires
 fresh-input-requires c κs = search needs
 
+printed-len-requires : tie.Need-printed-len-requires
+printed-len-requires c κs = search needs
+
 array-share-prefix-out : tie.Need-array-share-prefix-out
-array-share-prefix-out c = within (c .before)
+array-share-prefix-out c = within c
 
 slice-aggregate-write-all : tie.Need-slice-aggregate-write-all
-slice-aggregate-write-all c = simp length-take (omega (arith, within (c .before .before)))
+slice-aggregate-write-all c = simp length-take (omega (arith, within (c .before)))
 
 write-all-requires : tie.Need-write-all-requires
 write-all-requires c κs = search needs
@@ -55,6 +59,7 @@ main-spec =
     slice-aggregate-fresh-input
     slice-aggregate-fresh-input-2
     fresh-input-requires
+    printed-len-requires
     array-share-prefix-out
     slice-aggregate-write-all
     write-all-requires

@@ -4,16 +4,17 @@ use mathlib.Core.Path.{_≡_}
 use Prim.Native.Nat.{ℕ, _≤_}
 use native.Mathlib.Omega.{arith}
 use lib.ListN.{length, length-take, length-replicate}
-use Rattle.tollgilt.proofs.InputLaws.{printed-fits}
+use Rattle.tollgilt.proofs.InputLaws.{list-fits}
 use borrow.Author.Needs.{needs}
 use Rattle.planlist.proofs.main.Statement.{statement}
 use Rattle.planlist.proofs.main.Tie as tie
 
 -- what is printed lies in the room
-within : (c : tie.After-list-input) → c .list-input .result ≤ length (c .list-input .last .1 .0)
+within : (c : tie.After-printed-len) → c .printed-len .result ≤ length (c .before .before .list-input .last .1 .0)
 within c =
-    let long : length (c .list-input .last .1 .0) ≡ 25200 = search needs in
-    omega (arith, printed-fits _ _ _ (c .list-input .ensures .0), length-replicate {A = ℕ} 25200 0)
+    let P = c .before .before .list-input in
+    let long : length (P .last .1 .0) ≡ 25200 = search needs in
+    omega (arith, c .printed-len .ensures, list-fits _ _ _ _ (P .ensures), length-replicate {A = ℕ} 25200 0)
 
 slice-aggregate-read-full : tie.Need-slice-aggregate-read-full
 slice-aggregate-read-full c = search needs
@@ -33,11 +34,14 @@ slice-aggregate-list-input-2 c = search needs
 list-input-requires : tie.Need-list-input-requires
 list-input-requires c κs = search needs
 
+printed-len-requires : tie.Need-printed-len-requires
+printed-len-requires c κs = search needs
+
 array-share-prefix-out : tie.Need-array-share-prefix-out
-array-share-prefix-out c = within (c .before)
+array-share-prefix-out c = within c
 
 slice-aggregate-write-all : tie.Need-slice-aggregate-write-all
-slice-aggregate-write-all c = simp length-take (omega (arith, within (c .before .before)))
+slice-aggregate-write-all c = simp length-take (omega (arith, within (c .before)))
 
 write-all-requires : tie.Need-write-all-requires
 write-all-requires c κs = search needs
@@ -55,6 +59,7 @@ main-spec =
     slice-aggregate-list-input
     slice-aggregate-list-input-2
     list-input-requires
+    printed-len-requires
     array-share-prefix-out
     slice-aggregate-write-all
     write-all-requires

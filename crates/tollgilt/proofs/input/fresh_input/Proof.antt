@@ -7,7 +7,8 @@ use native.Mathlib.Omega.{arith}
 use lib.ListN.{length, replicate, length-take, length-replicate}
 use denote.Ref.{now}
 use borrow.Author.Needs.{needs}
-use Rattle.tollgilt.proofs.FreshInput.{none-freshly, joinable, pages-printed, refused-fits, refused-printed}
+use Rattle.tollgilt.proofs.InputLaws.{none-printed}
+use Rattle.tollgilt.proofs.FreshInput.{fresh-no-room, joinable, pages-printed, refused-fits, refused-printed}
 use Rattle.tollgilt.proofs.input.fresh_input.Statement.{statement}
 use Rattle.tollgilt.proofs.input.fresh_input.Tie as tie
 
@@ -30,7 +31,7 @@ rooms : length (replicate {A = ℕ} 12600 0) ≡ 12600
 rooms = length-replicate {A = ℕ} 12600 0
 
 returns : tie.Need-returns
-returns c = let s = c .before .before .before in none-freshly (now (s .args .out)) (now (s .args .input)) (c .if1 .taken)
+returns c = let s = c .before .before .before in none-printed (now (s .args .out)) (fresh-no-room (now (s .args .out)) (now (s .args .input)) (c .if1 .taken))
 
 split-requires : tie.Need-split-requires
 split-requires c κs = search needs
