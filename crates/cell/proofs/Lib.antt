@@ -1,7 +1,8 @@
 -- The laws about a cell of numbers. What each file is for stands in its first line.
 pub mod Values
 pub mod Told
-pub mod Answers
+pub mod Placed
+pub mod Shows
 pub mod Promises
 pub mod Plans
 pub mod Worked

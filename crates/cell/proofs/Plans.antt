@@ -1,7 +1,7 @@
 -- Plans: where a row's values lie in the text, its cells are document 01's cells of the row that the record shows.
 -- Assumes nothing.
 use mathlib.Core.Path.{_≡_, refl, sym, ap, subst, _∙_}
-use mathlib.Core.Bool.{Bool, true, false, _&&_, _||_}
+use mathlib.Core.Bool.{Bool, true, false, not, _&&_}
 use mathlib.Core.List.{List, [], _∷_, map}
 use mathlib.Core.Option.{some}
 use Prim.Native.Nat.{ℕ, _-_, _≤_, _<_}
@@ -18,9 +18,9 @@ use Rattle.paper.specs.Cells.{CellField, name, form, morning, midday, evening, 
 use Rattle.paper.proofs.Small.{both, if-same}
 use Rattle.paper.proofs.Told.{is-eq}
 use Rattle.paper.proofs.CellLaws.{RowAt, cell-row, no-other-row, no-fourth}
-use Rattle.plan.specs.Numbers.{recordAt, spanIn, spansOf, kindShown, rowWith, showRow, showRows, within, inText}
+use Rattle.plan.specs.Numbers.{recordAt, spanIn, spansOf, kindShown, rowWith, showRow, showRows, absent, within, inText}
 use Rattle.plan.proofs.Doses.{each-span}
-use Rattle.cell.specs.Numbered.{rowThere, standsFor, rowFor, rowsFor, spanFor, hidden, inRange, cellFor}
+use Rattle.cell.specs.Numbered.{rowThere, standsFor, rowFor, rowsFor, isTime, noValue, spanFor, inRange, cellFor}
 use Rattle.cell.proofs.Values.{row-numbered}
 use Rattle.cell.proofs.Told.{there}
 
@@ -39,11 +39,11 @@ in-range : (t l : List ℕ) (f : CellField) → inText t l ≡ true → spanFor 
 unfolding inText
 in-range t l f e h =
     let w : within (length t) (spanIn l (spanFor f)) ≡ true = ap (λ (j : ℕ). within (length t) (spanIn l j)) (sym (zero-add (spanFor f))) ∙ each-span (within (length t)) 19 0 l e (spanFor f) h in
-    rw w (at (hidden l f))
+    at (isTime f && not (absent (spanIn l 7))) w
   where
-    at : (b : Bool) → (b || true) ≡ true
-    at true = refl
-    at false = refl
+    at : (b : Bool) → within (length t) (spanIn l (spanFor f)) ≡ true → within (length t) (if b noValue (spanIn l (spanFor f))) ≡ true
+    at true w = refl
+    at false w = w
 
 -- two lists with one row in the place have one cell there
 same-cell : (rs qs : List Row) (n : ℕ) (r : Row) (f : CellField) (k : List ℕ) → RowAt rs n r → RowAt qs n r → cellIn rs n f k ≡ cellIn qs n f k

@@ -1,7 +1,7 @@
 -- Told: what the code finds of a cell tells the cell of the numbers.
 -- Assumes nothing.
 use mathlib.Core.Path.{_≡_, refl, sym, ap, _∙_}
-use mathlib.Core.Bool.{Bool, true, false, not, _&&_, _||_}
+use mathlib.Core.Bool.{Bool, true, false, not, _&&_}
 use mathlib.Core.List.{List, [], _∷_, map}
 use mathlib.Core.Option.{Option, none, some}
 use Prim.Native.Nat.{ℕ, zero, suc, _+_, _-_, _*_, _≤_}
@@ -25,15 +25,16 @@ use Rattle.plan.specs.declared.Times.{Times}
 use Rattle.plan.specs.declared.Dose.the-variants.{Scheme, Free, Unstated}
 use Rattle.plan.specs.declared.Row as Taken
 use Rattle.cell.specs.declared.Cell as Found
-use Rattle.cell.specs.Numbered.{fieldOf, rowThere, standsFor, rowFor, rowsFor, inRange, cellFor, cellAt}
+use Rattle.cell.specs.Numbered.{fieldOf, rowThere, standsFor, rowFor, rowsFor, noValue, inRange, cellFor, cellAt}
 use Rattle.cell.specs.Found.{noneFound, textFound, doseFound, timeOf, timeFound, freeFound, threeFound, fieldFound, held, isMedication, rowFound, found}
 use Rattle.cell.proofs.Values.{stands, medication, named, formed, dosed, substances, row-numbered}
 
--- the cell that is told, with that text and that catalogue
+-- the cell that is told, with that text and that catalogue: of one that is not refused, and of any
+abbrev pub toldShown : List ℕ → List ℕ → Found.Cell → Cell
+toldShown t k c = if (eqb (c .limit) 0) (cell (shown t (paperSpan (c .own))) false (c .zero)) (cutTo (c .limit) (ownOr (shown t (paperSpan (c .own))) k))
+
 abbrev pub told : List ℕ → List ℕ → Found.Cell → Cell
-told t k c =
-    if (c .refused) noCell
-    (if (eqb (c .limit) 0) (cell (shown t (paperSpan (c .own))) false (c .zero)) (cutTo (c .limit) (ownOr (shown t (paperSpan (c .own))) k)))
+told t k c = if (c .refused) noCell (toldShown t k c)
 
 -- ---- a cell with a limit
 
@@ -91,12 +92,12 @@ module _ (t k : List ℕ) where
     time-told : (w : Times → Code.Span) (u : List ℕ → List ℕ → List ℕ → List ℕ → List ℕ) (s : Span) → w times ≡ codeSpan s → u (standsFor t m) (standsFor t d) (standsFor t v) (standsFor t h) ≡ standsFor t s
         → (untimed ≡ true → absent s ≡ true)
         → told t k (held (length t) (timeFound w (R.doseFrom times (codeSpan x))))
-        ≡ if (not (absent x) || within (length t) s) (timeCell u (doseFrom (standsFor t m) (standsFor t d) (standsFor t v) (standsFor t h) (standsFor t x))) noCell
+        ≡ if (within (length t) (if (not (absent x)) noValue s)) (timeCell u (doseFrom (standsFor t m) (standsFor t d) (standsFor t v) (standsFor t h) (standsFor t x))) noCell
     time-told w u s e f g = rw dose-stands (at (absent x) untimed refl)
       where
         at : (a b : Bool) → untimed ≡ b
             → told t k (held (length t) (timeFound w (if a (if b Unstated (Scheme times)) (Free (codeSpan x)))))
-            ≡ if (not a || within (length t) s) (timeCell u (if a (if b unstated (scheme (standsFor t m) (standsFor t d) (standsFor t v) (standsFor t h))) (freeText (standsFor t x)))) noCell
+            ≡ if (within (length t) (if (not a) noValue s)) (timeCell u (if a (if b unstated (scheme (standsFor t m) (standsFor t d) (standsFor t v) (standsFor t h))) (freeText (standsFor t x)))) noCell
         at false b q = refl
         at true true q = rw (g q)
         at true false q = rw e (value-told s (u (standsFor t m) (standsFor t d) (standsFor t v) (standsFor t h)) (absent s) (isEmpty (u (standsFor t m) (standsFor t d) (standsFor t v) (standsFor t h))) f (ap isEmpty f ∙ stands t s))
@@ -114,7 +115,7 @@ module _ (t k : List ℕ) where
         at true false q = rw q
 
 -- one of four is absent where all are
-none-present : (a b c d : Bool) → (a && (b && (c && d))) ≡ true → (a ≡ true) × (b ≡ true) × (c ≡ true) × (d ≡ true)
+pub none-present : (a b c d : Bool) → (a && (b && (c && d))) ≡ true → (a ≡ true) × (b ≡ true) × (c ≡ true) × (d ≡ true)
 none-present a b c d e =
     let (p, q) = both a (b && (c && d)) e in
     let (r, s) = both b (c && d) q in
@@ -125,11 +126,11 @@ none-present a b c d e =
 
 -- the texts of a row are spans of its record, and its dose is the record's
 module _ (l : List ℕ) where
-  texts-are : (getD (rowIn l .texts) 0 noSpan ≡ codeSpanIn l 0) × (getD (rowIn l .texts) 2 noSpan ≡ codeSpanIn l 2)
+  pub texts-are : (getD (rowIn l .texts) 0 noSpan ≡ codeSpanIn l 0) × (getD (rowIn l .texts) 2 noSpan ≡ codeSpanIn l 2)
   unfolding rowIn textsIn
   texts-are = (refl, refl)
 
-  dose-is : rowIn l .dose ≡ doseIn l
+  pub dose-is : rowIn l .dose ≡ doseIn l
   unfolding rowIn
   dose-is = refl
 
@@ -137,7 +138,7 @@ module _ (l : List ℕ) where
   unfolding rowIn
   kind-is = refl
 
-  three-are : (i : ℕ) → 1 ≤ i → i ≤ 3 → (getD (rowIn l .texts) (6 + 2 * i) noSpan ≡ codeSpanIn l (11 + 2 * i)) × (getD (rowIn l .texts) (7 + 2 * i) noSpan ≡ codeSpanIn l (12 + 2 * i))
+  pub three-are : (i : ℕ) → 1 ≤ i → i ≤ 3 → (getD (rowIn l .texts) (6 + 2 * i) noSpan ≡ codeSpanIn l (11 + 2 * i)) × (getD (rowIn l .texts) (7 + 2 * i) noSpan ≡ codeSpanIn l (12 + 2 * i))
   unfolding rowIn textsIn
   three-are zero h g = absurd (omega arith)
   three-are (suc zero) h g = (refl, refl)
@@ -171,12 +172,12 @@ is-medication R = refl
 is-medication X = refl
 
 -- the row that a medication's record stands for
-for-medication : (t l : List ℕ) → kindShown (getD l 0 0) ≡ M → rowFor t l ≡ medication t l
+pub for-medication : (t l : List ℕ) → kindShown (getD l 0 0) ≡ M → rowFor t l ≡ medication t l
 unfolding rowFor
 for-medication t l e = ap (λ (j : Kind). rowWith j (getD l 1 0) (map (standsFor t) (spansOf l))) e
 
 -- its kind
-for-kind : (t l : List ℕ) → rowFor t l .kind ≡ kindShown (getD l 0 0)
+pub for-kind : (t l : List ℕ) → rowFor t l .kind ≡ kindShown (getD l 0 0)
 unfolding rowFor
 for-kind t l = refl
 

@@ -1,7 +1,7 @@
 -- Worked: cells of two rows in numbers: one with a code for its form and one time of day, and one whose free text points outside the text.
 -- Assumes nothing.
 use mathlib.Core.Path.{_≡_, refl}
-use mathlib.Core.Bool.{true, false}
+use mathlib.Core.Bool.{Bool, true, false}
 use mathlib.Core.List.{List, [], _∷_, _++_}
 use Prim.Native.Nat.{ℕ}
 use lib.ListN.{replicate}
@@ -11,7 +11,12 @@ use Rattle.paper.specs.Layout.{Span}
 use Rattle.paper.specs.Cells.{Cell, cell, noCell}
 use Rattle.plan.specs.Numbers.{spansIn, recordWith}
 use Rattle.plan.proofs.Spans.{none}
+use Rattle.paper.specs.Reading.{numbers}
+use Rattle.cell.specs.declared.answer.Source.{Source}
+use Rattle.cell.specs.declared.answer.Source.the-variants.{Plan, Catalogue, Neither}
 use Rattle.cell.specs.Numbered.{rowFor, cellAt}
+use Rattle.cell.specs.declared.answer.Answer.the-variants.{NoCell}
+use Rattle.cell.specs.Answers.{Values, valuesOf, valuesAt}
 
 -- a span
 abbrev span : ℕ → ℕ → Span
@@ -48,6 +53,30 @@ module _ (k : List ℕ) where
   nothing : (asked k 3 1 0 ≡ noCell) × (asked k 1 2 4 ≡ noCell) × (asked k 1 10 0 ≡ noCell)
   unfolding cellAt rowFor recordWith spansIn fieldsOf
   nothing = (refl, refl, refl)
+
+-- the values of such a cell
+abbrev shows : Source → ℕ → ℕ → Bool → Bool → Values
+shows x a n d m = record { refusal = numbers 0 0 0; source = x; at = a; len = n; more = d; zero = m }
+
+-- where these texts lie, and the refusals
+abbrev values : List ℕ → ℕ → ℕ → ℕ → Values
+values k row n i = valuesAt rows 2 text k row n i
+
+module _ (k : List ℕ) where
+  -- the name and the dose in the plan's text; an empty time comes from neither
+  own-placed : (values k 1 1 0 ≡ shows Plan 0 3 false false) × (values k 1 5 0 ≡ shows Plan 6 1 false false) × (values k 1 6 0 ≡ shows Neither 0 0 false true)
+  unfolding valuesAt cellAt rowFor recordWith spansIn fieldsOf
+  own-placed = (refl, refl, refl)
+
+  -- refusal 1 at 0, 0
+  no-place : (values k 3 1 0 ≡ valuesOf NoCell) × (values k 2 9 0 ≡ valuesOf NoCell)
+  unfolding valuesAt cellAt rowFor recordWith spansIn fieldsOf
+  no-place = (refl, refl)
+
+-- the form's text is the catalogue's, from its beginning; without one it is neither's
+form-placed : (values (bytes "Tablette") 1 4 0 ≡ shows Catalogue 0 4 true false) × (values [] 1 4 0 ≡ shows Neither 0 0 false false)
+unfolding valuesAt cellAt rowFor recordWith spansIn fieldsOf
+form-placed = (refl, refl)
 
 -- the form's code is no text: the catalogue's stands in, cut to four bytes and "..."
 form-cut : asked (bytes "Tablette") 1 4 0 ≡ cell (bytes "Tabl") true false

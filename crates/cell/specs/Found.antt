@@ -1,11 +1,12 @@
--- Found: a cell as the code finds it in a row: refused or not, the range of the plan's own value, the limit, the mark that 0 is printed.
--- A dose cell has limit 0. Serves this crate's contracts; proofs/Told.antt joins it to the cell of `Numbered`.
+-- Found: a cell as the code finds it in a row: refused or not, the range of the plan's own value, the limit, the mark that 0 is printed; and what it shows.
+-- A dose cell has limit 0. Serves this crate's contracts; proofs/Told.antt joins it to the cell of `Numbered`, proofs/Shows.antt to the values of `Answers`.
 -- Assumes nothing.
 use mathlib.Core.Bool.{Bool, true, false}
 use mathlib.Core.List.{List}
 use mathlib.Core.Option.{Option, none, some}
-use Prim.Native.Nat.{ℕ, _+_, _-_, _*_}
-use lib.Dec.{eqb}
+use mathlib.Core.Path.{_≡_}
+use Prim.Native.Nat.{ℕ, _+_, _-_, _*_, _≤_}
+use lib.Dec.{eqb, leb}
 use lib.ListN.{getD}
 use Rattle.paper.specs.Lists.{if}
 use Rattle.paper.specs.Cells.{CellField, name, form, morning, midday, evening, night, freeDose, substance, strength, ofThree}
@@ -19,6 +20,9 @@ use Rattle.plan.specs.declared.Kind.{Kind}
 use Rattle.plan.specs.declared.Kind.the-variants.{Heading, Medication, Recipe, Note, Unknown}
 use Rattle.plan.specs.declared.Row.{Row}
 use Rattle.cell.specs.declared.Cell.{Cell}
+use Rattle.cell.specs.declared.answer.Source.{Source}
+use Rattle.cell.specs.declared.answer.Source.the-variants.{Plan, Catalogue, Neither}
+use Rattle.cell.specs.declared.answer.Shown.{Shown}
 use Rattle.cell.specs.Numbered.{rowThere}
 
 -- the cell that is refused
@@ -85,3 +89,28 @@ rowFound size r f = if (isMedication (r .kind)) (held size (fieldFound r f)) non
 -- the cell of the row of that number
 unfoldable pub found : List ℕ → ℕ → ℕ → ℕ → Option CellField → Cell
 found rows count size row f = if (rowThere rows count row) (rowFound size (rowIn (recordAt rows (row - 1))) f) noneFound
+
+-- ---- what it shows
+
+-- a limit leaves room for "..."
+abbrev pub Roomy : Cell → Type 0
+Roomy c = (c .limit ≡ 0 → ⊥) → 3 ≤ c .limit
+
+-- n bytes of a buffer from place a on, shown whole
+abbrev pub wholeShown : Source → ℕ → ℕ → Bool → Shown
+wholeShown s a n z = record { source = s; at = a; len = n; more = false; zero = z }
+
+-- the same up to a limit
+abbrev pub cutShown : Source → ℕ → ℕ → ℕ → Shown
+cutShown s a n limit = if (leb n limit) (wholeShown s a n false) (record { source = s; at = a; len = limit - 3; more = true; zero = false })
+
+-- a dose, and a text with a limit beside a catalogue of so many bytes
+abbrev pub doseShown : Span → Bool → Shown
+doseShown s z = if (eqb (s .len) 0) (wholeShown Neither 0 0 z) (wholeShown Plan (s .at) (s .len) z)
+
+abbrev pub textShown : ℕ → Span → ℕ → Shown
+textShown size s limit = if (eqb (s .len) 0) (if (eqb size 0) (wholeShown Neither 0 0 false) (cutShown Catalogue 0 size limit)) (cutShown Plan (s .at) (s .len) limit)
+
+-- a cell that is found
+abbrev pub shownFound : ℕ → Cell → Shown
+shownFound size c = if (eqb (c .limit) 0) (doseShown (c .own) (c .zero)) (textShown size (c .own) (c .limit))

@@ -1,4 +1,5 @@
--- The cell of numbers. `Numbered` is the interface: which cell of document 01 a call asks for, and what each answer says of it. `Found` serves the code:
--- a cell as ranges and numbers.
+-- The cell of numbers. `Numbered` and `Answers` are the interface: which cell of document 01 a call asks for, and what is answered of it. `Found` serves the
+-- code: a cell as ranges and numbers.
 pub mod Numbered
+pub mod Answers
 pub mod Found

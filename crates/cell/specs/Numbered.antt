@@ -1,9 +1,9 @@
--- Numbered: the cell that a call with numbers asks for, and what the answers say of it. The cell is document 01's, of the rows that the numbers stand for.
+-- Numbered: the cell that a call with numbers asks for: document 01's, of the rows that the numbers stand for.
 --   a field  is a number: 1 name, 2 substance, 3 strength, 4 form, 5 morning, 6 midday, 7 evening, 8 night, 9 the dose as free text
 --   a row    is there if its number, counted from 1, is not above the row count, and its record lies in the lent rows
 --   a value  is present by its length alone; only the range of the value asked for is held against the text
 -- Assumes nothing.
-use mathlib.Core.Bool.{Bool, true, false, not, _&&_, _||_}
+use mathlib.Core.Bool.{Bool, true, false, not, _&&_}
 use mathlib.Core.List.{List, [], _∷_, map}
 use mathlib.Core.Option.{Option, none, some}
 use Prim.Native.Nat.{ℕ, zero, suc, _+_, _-_, _*_}
@@ -12,7 +12,7 @@ use lib.ListN.{length, take, drop, getD, replicate}
 use Rattle.paper.specs.Lists.{if}
 use Rattle.paper.specs.Plan.{Row}
 use Rattle.paper.specs.Layout.{Span, shown}
-use Rattle.paper.specs.Cells.{CellField, name, form, morning, midday, evening, night, freeDose, substance, strength, Cell, cell, noCell, cellIn}
+use Rattle.paper.specs.Cells.{CellField, name, form, morning, midday, evening, night, freeDose, substance, strength, Cell, noCell, cellIn}
 use Rattle.plan.specs.Numbers.{recordAt, spanIn, spansOf, kindShown, rowWith, absent, within}
 
 -- ---- what is asked for
@@ -68,13 +68,17 @@ isTime freeDose = false
 isTime (substance i) = false
 isTime (strength i) = false
 
--- beside a free text the times of day are absent, whatever stands in their spans
-abbrev pub hidden : List ℕ → CellField → Bool
-hidden l f = isTime f && not (absent (spanIn l 7))
+-- an absent value
+abbrev pub noValue : Span
+noValue = record { at = 0; len = 0 }
+
+-- the range of the plan's own value for a cell; beside a free text the times of day are absent, whatever stands in their spans
+abbrev pub ownSpan : List ℕ → CellField → Span
+ownSpan l f = if (isTime f && not (absent (spanIn l 7))) noValue (spanIn l (spanFor f))
 
 -- the value asked for lies in the text; an absent value has no range
 abbrev pub inRange : List ℕ → List ℕ → CellField → Bool
-inRange t l f = hidden l f || within (length t) (spanIn l (spanFor f))
+inRange t l f = within (length t) (ownSpan l f)
 
 -- ---- the cell
 
@@ -86,25 +90,3 @@ cellFor rows count t k row (some f) = if (rowThere rows count row && inRange t (
 -- the cell that a call asks for: of these rows, so many of them, with this text and this catalogue, row number, field number, and which of three
 unfoldable pub cellAt : List ℕ → ℕ → List ℕ → List ℕ → ℕ → ℕ → ℕ → Cell
 cellAt rows count t k row n i = cellFor rows count t k row (fieldOf n i)
-
--- ---- what the answers say of a cell
-
--- its text; that of a refused cell is empty
-abbrev pub textOf : Cell → List ℕ
-textOf (cell t d m) = t
-textOf noCell = []
-
--- "..." follows
-abbrev pub isCut : Cell → Bool
-isCut (cell t d m) = d
-isCut noCell = false
-
--- 0 is printed
-abbrev pub isZero : Cell → Bool
-isZero (cell t d m) = m
-isZero noCell = false
-
--- refusal 1
-abbrev pub isRefused : Cell → Bool
-isRefused (cell t d m) = false
-isRefused noCell = true

@@ -1,12 +1,16 @@
 // The text of a printed cell: the plan's own value, else the catalogue's text, as a part of the one or the other. Any rows, text, catalogue and numbers
-// may be handed in. specs/Numbered.antt says which cell of document 01 each call asks for.
+// may be handed in. specs/Numbered.antt says which cell of document 01 each call asks for, specs/Answers.antt what is answered.
+pub mod answer;
+
 ghost use mathlib.Core.Path.{_≡_};
-ghost use mathlib.Core.List.{[]};
 ghost use Prim.Native.Nat.{_≤_};
-ghost use Rattle.paper.specs.Cells.{cutTo};
 ghost use Rattle.plan.specs.Numbers.{paperSpan, within};
-ghost use Rattle.cell.specs.Numbered.{fieldOf, rowThere, cellAt, textOf, isCut, isZero, isRefused};
-ghost use Rattle.cell.specs.Found.{noneFound, textFound, doseFound, timeOf, timeFound, freeFound, threeFound, fieldFound, isMedication, found};
+ghost use Rattle.cell.specs.Numbered.{fieldOf, rowThere};
+ghost use Rattle.cell.specs.Answers.{valuesOf, valuesAt, sliceOf, textIn};
+ghost use Rattle.cell.specs.Found.{noneFound, textFound, doseFound, timeOf, timeFound, freeFound, threeFound, fieldFound, isMedication, found, Roomy, wholeShown, cutShown, shownFound};
+use crate::answer::Answer;
+use crate::answer::Shown;
+use crate::answer::Source;
 use plan::Dose;
 use plan::Kind;
 use plan::Plan;
@@ -264,18 +268,81 @@ fn find(rows: &[u32], count: usize, size: usize, row: usize, field: u32, which: 
     c
 }
 
-// A text, or its beginning where it is longer than the limit, with room left for "...".
-fn cut<'a>(t: &'a [u8], limit: usize) -> &'a [u8]
-    requires { ⌜ 3 ≤ limit ⌝ }
-    ensures { λ r. ⌜ now r ≡ textOf (cutTo limit (now (t .entry))) ⌝ }
+// What a cell shows that shows a text whole.
+fn whole(source: Source, at: usize, len: usize, zero: bool) -> Shown
+    ensures { λ r. ⌜ r ≡ wholeShown source «at» len zero ⌝ }
 {
-    if t.len() <= limit {
-        return t;
+    Shown {
+        source: source,
+        at: at,
+        len: len,
+        more: false,
+        zero: zero,
     }
-    &t[..limit - Cell::DOTS]
 }
 
-// The text that a cell shows: a part of the plan's text or of the catalogue. It is empty where there is none, and where the cell is refused.
+// What a cell with a limit shows of a text: all of it, or its beginning where it is longer than the limit, with room left for "...".
+fn cut(source: Source, at: usize, len: usize, limit: usize) -> Shown
+    requires { ⌜ 3 ≤ limit ⌝ }
+    ensures { λ r. ⌜ r ≡ cutShown source «at» len limit ⌝ }
+{
+    if len <= limit {
+        return whole(source, at, len, false);
+    }
+    Shown {
+        source: source,
+        at: at,
+        len: limit - Cell::DOTS,
+        more: true,
+        zero: false,
+    }
+}
+
+// What a cell shows that is found, with a catalogue of so many bytes.
+fn shown(c: Cell, size: usize) -> Shown
+    requires { ⌜ Roomy c ⌝ }
+    ensures { λ r. ⌜ r ≡ shownFound size c ⌝ }
+{
+    let limit = c.limit;
+    let at = wide(c.own.at);
+    let len = wide(c.own.len);
+    if limit == Cell::DOSE {
+        if len == 0 {
+            return whole(Source::Neither, 0, 0, c.zero);
+        }
+        return whole(Source::Plan, at, len, c.zero);
+    }
+    if len > 0 {
+        return cut(Source::Plan, at, len, limit);
+    }
+    if size > 0 {
+        return cut(Source::Catalogue, 0, size, limit);
+    }
+    whole(Source::Neither, 0, 0, false)
+}
+
+// What the cell shows, in numbers, or the refusal.
+pub fn cell_answer<'a>(
+    rows: &'a [u32],
+    count: usize,
+    text: &'a [u8],
+    catalogue: &'a [u8],
+    row: usize,
+    field: u32,
+    which: usize,
+) -> Answer
+    ensures { λ r. ⌜ valuesOf r ≡ valuesAt (now (rows .entry)) count (now (text .entry)) (now (catalogue .entry)) row field which ⌝ }
+{
+    let c = find(rows, count, text.len(), row, field, which);
+    if c.refused {
+        return Answer::NoCell;
+    }
+    let s = shown(c, catalogue.len());
+    Answer::Shown(s)
+}
+
+// The text that a cell shows: the part of the plan's text or of the catalogue that `cell_answer` tells. With neither it is empty, as it is where the cell is
+// refused: then it is the empty part at the beginning of the plan's text.
 pub fn cell_text<'a>(
     rows: &'a [u32],
     count: usize,
@@ -285,76 +352,20 @@ pub fn cell_text<'a>(
     field: u32,
     which: usize,
 ) -> &'a [u8]
-    ensures { λ r. ⌜ now r ≡ textOf (cellAt (now (rows .entry)) count (now (text .entry)) (now (catalogue .entry)) row field which) ⌝ }
+    ensures { λ r. ⌜ sliceOf r ≡ textIn (text .entry) (catalogue .entry) (valuesAt (now (rows .entry)) count (now (text .entry)) (now (catalogue .entry)) row field which) ⌝ }
 {
-    let c = find(rows, count, text.len(), row, field, which);
-    let limit = c.limit;
-    let at = wide(c.own.at);
-    let len = wide(c.own.len);
-    if len == 0 {
-        if limit == Cell::DOSE {
-            return &text[..0];
+    let a = cell_answer(rows, count, text, catalogue, row, field, which);
+    match a {
+        Answer::Shown(s) => {
+            let source = s.source;
+            let at = s.at;
+            let len = s.len;
+            match source {
+                Source::Plan => &text[at..at + len],
+                Source::Catalogue => &catalogue[at..at + len],
+                Source::Neither => &text[..0],
+            }
         }
-        return cut(catalogue, limit);
+        Answer::NoCell => &text[..0],
     }
-    let own = &text[at..at + len];
-    if limit == Cell::DOSE {
-        return own;
-    }
-    cut(own, limit)
-}
-
-// Whether the cell is refused, with number 1: the row or the field does not exist, the row is no medication, the index is none of three, or the value asked
-// for points outside the text.
-pub fn cell_refused(
-    rows: &[u32],
-    count: usize,
-    text: &[u8],
-    row: usize,
-    field: u32,
-    which: usize,
-) -> bool
-    ensures { λ r. ⌜ r ≡ isRefused (cellAt (now (rows .entry)) count (now (text .entry)) [] row field which) ⌝ }
-{
-    let c = find(rows, count, text.len(), row, field, which);
-    c.refused
-}
-
-// Whether "..." follows the text: the text was longer than the limit. False where the cell is refused.
-pub fn cell_more<'a>(
-    rows: &'a [u32],
-    count: usize,
-    text: &'a [u8],
-    catalogue: &'a [u8],
-    row: usize,
-    field: u32,
-    which: usize,
-) -> bool
-    ensures { λ r. ⌜ r ≡ isCut (cellAt (now (rows .entry)) count (now (text .entry)) (now (catalogue .entry)) row field which) ⌝ }
-{
-    let c = find(rows, count, text.len(), row, field, which);
-    let limit = c.limit;
-    let len = wide(c.own.len);
-    if limit == Cell::DOSE {
-        return false;
-    }
-    if len == 0 {
-        return catalogue.len() > limit;
-    }
-    len > limit
-}
-
-// Whether 0 is printed: the time of day is absent, and another one is there. False where the cell is refused.
-pub fn cell_zero(
-    rows: &[u32],
-    count: usize,
-    text: &[u8],
-    row: usize,
-    field: u32,
-    which: usize,
-) -> bool
-    ensures { λ r. ⌜ r ≡ isZero (cellAt (now (rows .entry)) count (now (text .entry)) [] row field which) ⌝ }
-{
-    let c = find(rows, count, text.len(), row, field, which);
-    c.zero
 }

@@ -1,8 +1,9 @@
 // A printed cell, for the tests.
-use cell::cell_more;
-use cell::cell_refused;
+use cell::answer::Answer;
+use cell::answer::refusal_number;
+use cell::answer::source_number;
+use cell::cell_answer;
 use cell::cell_text;
-use cell::cell_zero;
 use markup::values::lay;
 
 // The text of a cell, laid at the beginning of `out`: its length, or a million if the room is too small.
@@ -24,9 +25,10 @@ pub extern "C" fn probe_cell_text<'a>(
     lay(out, 0, shown) as u64
 }
 
-// What is said of a cell beside its text: 1 if it is refused, 2 if "..." follows, 4 if 0 is printed, added up.
+// The number of a cell's refusal, 0 for a cell; in `told` the number of the source of its text, where the text begins there, its length, whether "..."
+// follows and whether 0 is printed. Of a refused cell all five are 0.
 #[no_mangle]
-pub extern "C" fn probe_cell_said<'a>(
+pub extern "C" fn probe_cell<'a>(
     rows: &'a [u32],
     count: usize,
     text: &'a [u8],
@@ -34,16 +36,25 @@ pub extern "C" fn probe_cell_said<'a>(
     row: usize,
     field: u32,
     which: usize,
-) -> u8 {
-    let mut said = 0;
-    if cell_refused(rows, count, text, row, field, which) {
-        said = 1;
+    told: &mut [usize; 5],
+) -> u32 {
+    let a = cell_answer(rows, count, text, catalogue, row, field, which);
+    match a {
+        Answer::Shown(s) => {
+            let source = s.source;
+            told[0] = source_number(source) as usize;
+            told[1] = s.at;
+            told[2] = s.len;
+            told[3] = s.more as usize;
+            told[4] = s.zero as usize;
+        }
+        Answer::NoCell => {
+            told[0] = 0;
+            told[1] = 0;
+            told[2] = 0;
+            told[3] = 0;
+            told[4] = 0;
+        }
     }
-    if cell_more(rows, count, text, catalogue, row, field, which) {
-        said |= 2;
-    }
-    if cell_zero(rows, count, text, row, field, which) {
-        said |= 4;
-    }
-    said
+    refusal_number(a)
 }

@@ -1,6 +1,7 @@
 // The command k: a cell. Seven numbers of four bytes, lowest first: count, row, field, which, and the lengths of rows, text and catalogue; then these, each
 // number of the rows in four bytes, at most 16,384 of them. It prints
-//   cell REFUSED MORE ZERO, each 0 or 1
+//   cell NUMBER SOURCE AT LENGTH MORE ZERO: the number of the refusal; which buffer the text is a part of (1 the plan's, 2 the catalogue's, 0 neither), where it
+//     begins there and how long it is; whether "..." follows and whether 0 is printed
 //   text, and the bytes of the cell's text
 // or, if the bytes are too few: bad
 ghost use Prim.Native.Nat.{_+_, _*_, _≤_};
@@ -9,12 +10,16 @@ use crate::lines::bad;
 use crate::lines::bytes;
 use crate::lines::end;
 use crate::lines::number;
+use crate::lines::size;
 use crate::lines::word;
 use crate::number_of;
-use cell::cell_more;
-use cell::cell_refused;
+use cell::answer::Answer;
+use cell::answer::Shown;
+use cell::answer::Source;
+use cell::answer::refusal_number;
+use cell::answer::source_number;
+use cell::cell_answer;
 use cell::cell_text;
-use cell::cell_zero;
 
 // Where the rows begin.
 const ROWS_AT: usize = 28;
@@ -37,16 +42,31 @@ fn lay_rows(given: &[u8], rows: &mut [u32], n: usize)
     }
 }
 
-// Whether something holds, as a number.
-fn flag(b: bool) {
-    if b {
-        number(1);
-    } else {
-        number(0);
+// What a cell shows, in numbers.
+fn tell_shown(s: Shown) {
+    let source = s.source;
+    number(source_number(source));
+    size(s.at);
+    size(s.len);
+    number(s.more as u32);
+    number(s.zero as u32);
+}
+
+// What a cell shows that is answered; nothing where it is refused.
+fn shown_of(a: Answer) -> Shown {
+    match a {
+        Answer::Shown(s) => s,
+        Answer::NoCell => Shown {
+            source: Source::Neither,
+            at: 0,
+            len: 0,
+            more: false,
+            zero: false,
+        },
     }
 }
 
-// What is said of a cell.
+// What is answered of a cell.
 fn tell<'a>(
     rows: &'a [u32],
     count: usize,
@@ -56,10 +76,10 @@ fn tell<'a>(
     field: u32,
     which: usize,
 ) {
+    let a = cell_answer(rows, count, text, catalogue, row, field, which);
     word(b"cell");
-    flag(cell_refused(rows, count, text, row, field, which));
-    flag(cell_more(rows, count, text, catalogue, row, field, which));
-    flag(cell_zero(rows, count, text, row, field, which));
+    number(refusal_number(a));
+    tell_shown(shown_of(a));
     end();
     let shown = cell_text(rows, count, text, catalogue, row, field, which);
     word(b"text");

@@ -8,10 +8,15 @@ pub fn word(s: &[u8]) {
     io::write_all(STDOUT_FILENO, s);
 }
 
-// A number.
-pub fn number(n: u32) {
+// A number of the machine's width.
+pub fn size(n: usize) {
     io::write_all(STDOUT_FILENO, b" ");
     io::print_decimal(STDOUT_FILENO, n as u64);
+}
+
+// A number.
+pub fn number(n: u32) {
+    size(n as usize);
 }
 
 // A byte as a number.

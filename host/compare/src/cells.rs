@@ -1,7 +1,7 @@
 //! The text of printed cells, of plans in numbers of any kind.
 
 use inputs::{Numbers, Random};
-use second::cell::{cell, Cell};
+use second::cell::cell;
 
 use crate::numbers::{row_of, RECORD};
 
@@ -23,7 +23,7 @@ mod border {
             room: usize,
         ) -> u64;
         #[allow(clippy::too_many_arguments)]
-        pub fn probe_cell_said(
+        pub fn probe_cell(
             rows: *const u32,
             rows_length: usize,
             count: usize,
@@ -34,7 +34,8 @@ mod border {
             row: usize,
             field: u32,
             which: usize,
-        ) -> u8;
+            told: *mut [usize; 5],
+        ) -> u32;
     }
 }
 
@@ -50,11 +51,20 @@ struct Asked {
     which: usize,
 }
 
-/// What a cell shows: the text, and whether it is refused, "..." follows, or 0 is printed.
+/// Which buffer a text is a part of, where it begins there and how long it is; 0 and 0 with neither.
+#[derive(Clone, Copy, Debug, PartialEq, Eq)]
+enum Part {
+    Plan(usize, usize),
+    Catalogue(usize, usize),
+    Neither(usize, usize),
+}
+
+/// What is answered of a cell: the number of its refusal, its text and where that comes from, and whether "..." follows or 0 is printed.
 #[derive(Debug, PartialEq, Eq)]
 struct Shown {
+    refusal: u32,
     text: Vec<u8>,
-    refused: bool,
+    part: Part,
     dots: bool,
     zero: bool,
 }
@@ -85,9 +95,10 @@ fn text_of(rows: &[u32], text: &[u8], catalogue: &[u8], asked: Asked) -> Vec<u8>
 
 /// What the proved code shows.
 fn proved(rows: &[u32], text: &[u8], catalogue: &[u8], asked: Asked) -> Shown {
-    // SAFETY: each pair of a start and a length is one slice, which is only read.
-    let said = unsafe {
-        border::probe_cell_said(
+    let mut told = [usize::MAX; 5];
+    // SAFETY: each pair of a start and a length is one slice, which is only read; the five numbers are written.
+    let refusal = unsafe {
+        border::probe_cell(
             rows.as_ptr(),
             rows.len(),
             asked.count,
@@ -98,41 +109,56 @@ fn proved(rows: &[u32], text: &[u8], catalogue: &[u8], asked: Asked) -> Shown {
             asked.row,
             asked.field,
             asked.which,
+            &mut told,
         )
     };
+    let [source, at, len, dots, zero] = told;
     Shown {
+        refusal,
         text: text_of(rows, text, catalogue, asked),
-        refused: said & 1 != 0,
-        dots: said & 2 != 0,
-        zero: said & 4 != 0,
+        part: match source {
+            1 => Part::Plan(at, len),
+            2 => Part::Catalogue(at, len),
+            _ => Part::Neither(at, len),
+        },
+        dots: dots != 0,
+        zero: zero != 0,
     }
 }
 
-/// What the second program shows; a refused cell has no text and no mark. And whether the text is a part of the catalogue.
-fn second(rows: &[u32], text: &[u8], catalogue: &[u8], asked: Asked) -> (Shown, bool) {
+/// Where a part of one of the two buffers lies; an empty part is of neither.
+fn part_of(part: &[u8], text: &[u8], catalogue: &[u8]) -> Part {
+    let behind = |buffer: &[u8]| part.as_ptr() as usize - buffer.as_ptr() as usize;
+    if part.is_empty() {
+        Part::Neither(0, 0)
+    } else if catalogue.as_ptr_range().contains(&part.as_ptr()) {
+        Part::Catalogue(behind(catalogue), part.len())
+    } else {
+        Part::Plan(behind(text), part.len())
+    }
+}
+
+/// What the second program shows; a refused cell has no text and no mark.
+fn second(rows: &[u32], text: &[u8], catalogue: &[u8], asked: Asked) -> Shown {
     let records = rows.chunks_exact(RECORD).take(asked.count);
     let there: Vec<_> = records.map(row_of).collect();
     let field = asked.field as usize;
-    let answer = cell(&there, text, catalogue, asked.row, field, asked.which);
-    let (refused, cell) = match answer {
-        Ok(cell) => (false, cell),
-        Err(_) => (
-            true,
-            Cell {
-                text: &[],
-                dots: false,
-                zero: false,
-            },
-        ),
-    };
-    let borrowed = catalogue.as_ptr_range().contains(&cell.text.as_ptr());
-    let shown = Shown {
-        text: cell.text.to_vec(),
-        refused,
-        dots: cell.dots,
-        zero: cell.zero,
-    };
-    (shown, borrowed && !cell.text.is_empty())
+    match cell(&there, text, catalogue, asked.row, field, asked.which) {
+        Ok(cell) => Shown {
+            refusal: 0,
+            text: cell.text.to_vec(),
+            part: part_of(cell.text, text, catalogue),
+            dots: cell.dots,
+            zero: cell.zero,
+        },
+        Err(refusal) => Shown {
+            refusal: refusal.number.into(),
+            text: Vec::new(),
+            part: Part::Neither(0, 0),
+            dots: false,
+            zero: false,
+        },
+    }
 }
 
 /// Every byte turned to another one.
@@ -235,7 +261,7 @@ pub fn all(title: &str, numbers: &Numbers) -> Vec<String> {
     found
 }
 
-/// Whether a cell is refused. Compared is what is shown; and from which text it comes, which is seen by turning the bytes of the one or the other.
+/// Whether a cell is refused. Compared is what is answered. Which buffer the text is a part of is seen by turning the bytes of the one or the other, too.
 fn compared(
     title: &str,
     numbers: &Numbers,
@@ -245,16 +271,16 @@ fn compared(
 ) -> bool {
     let (rows, text) = (&numbers.rows, &numbers.text);
     let given = proved(rows, text, catalogue, asked);
-    let (expected, borrowed) = second(rows, text, catalogue, asked);
+    let expected = second(rows, text, catalogue, asked);
     let other_text = text_of(rows, &turned(text), catalogue, asked);
     let other_catalogue = text_of(rows, text, &turned(catalogue), asked);
-    let from = match (expected.text.is_empty(), borrowed) {
-        (true, _) => other_text == given.text && other_catalogue == given.text,
-        (_, true) => other_text == given.text && other_catalogue == turned(&given.text),
-        _ => other_text == turned(&given.text) && other_catalogue == given.text,
+    let from = match expected.part {
+        Part::Neither(..) => other_text == given.text && other_catalogue == given.text,
+        Part::Catalogue(..) => other_text == given.text && other_catalogue == turned(&given.text),
+        Part::Plan(..) => other_text == turned(&given.text) && other_catalogue == given.text,
     };
     if given != expected || !from {
         found.push(format!("{title}, {asked:?}: {given:?} for {expected:?}"));
     }
-    given.refused
+    given.refusal != 0
 }

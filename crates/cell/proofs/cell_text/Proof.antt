@@ -1,123 +1,144 @@
--- `cell::cell_text` meets its contract: the value that is found, or the catalogue's text, each cut where the cell has a limit.
+-- `cell::cell_text` meets its contract: it is the part that the answer's numbers tell, of the slice that its source names.
 -- Assumes nothing.
 use mathlib.Core.Path.{_≡_, sym, ap, _∙_}
-use mathlib.Core.List.{List}
-use Prim.Native.Nat.{ℕ, _+_, _-_, _≤_}
+use Prim.Native.Nat.{_+_, _-_, _≤_}
 use native.Mathlib.Omega.{arith}
-use lib.ListN.{length, take, drop}
-use Rattle.paper.specs.Layout.{shown}
-use Rattle.paper.specs.Cells.{Cell, cutTo}
-use Rattle.plan.specs.Numbers.{paperSpan}
-use Rattle.cell.specs.Numbered.{cellAt, textOf}
-use Rattle.cell.proofs.Answers.{roomy, lies, from-catalogue, from-plan, value-shown}
+use lib.ListN.{length}
+use Rattle.cell.specs.declared.answer.Shown as Told
+use Rattle.cell.specs.declared.answer.Answer.the-variants.{Shown, NoCell}
+use Rattle.cell.specs.declared.answer.Source.{Source}
+use Rattle.cell.specs.declared.answer.Source.the-variants.{Plan, Catalogue}
+use Rattle.cell.specs.Answers.{Values, valuesOf, valuesAt, Lent, part, buffer, textIn}
+use Rattle.cell.proofs.Shows.{part-lies, part-is, empty-is, refused-is}
 use borrow.Author.Needs.{needs}
 use Rattle.cell.proofs.cell_text.Statement.{statement}
 use Rattle.cell.proofs.cell_text.Tie as tie
 
--- ---- the cell that is found, and the cell that is asked for
+-- the two slices, and the values that document 01 gives the cell
+abbrev text-at : tie.After-cell-answer → Lent
+text-at A = A .before .before .before .before .args .text
 
--- the cell that is asked for
-abbrev cell-at : tie.After-find → Cell
-cell-at F = let a = F .before .before .before .before .args in cellAt (a .rows .now) (a .count) (a .text .now) (a .catalogue .now) (a .row) (a .field) (a .which)
+abbrev catalogue-at : tie.After-cell-answer → Lent
+catalogue-at A = A .before .before .before .before .args .catalogue
 
--- its own value in the text
-abbrev own-at : tie.After-find → List ℕ
-own-at F = let a = F .before .before .before .before .args in shown (a .text .now) (paperSpan (F .find .result .own))
+abbrev values-at : tie.After-cell-answer → Values
+values-at A = let a = A .before .before .before .before .args in valuesAt (a .rows .now) (a .count) (a .text .now) (a .catalogue .now) (a .row) (a .field) (a .which)
 
-room-at : (F : tie.After-find) → (F .find .result .limit ≡ 0 → ⊥) → 3 ≤ F .find .result .limit
-room-at F = let a = F .before .before .before .before .args in roomy (a .rows .now) (a .count) (a .text .now) (a .catalogue .now) (a .row) (a .field) (a .which) (F .find .result) (F .find .ensures)
+-- of a refused cell they are those of a refusal
+refused-at : (A : tie.After-cell-answer) → A .cell-answer .result ≡ NoCell → valuesOf NoCell ≡ values-at A
+refused-at A e = ap valuesOf (sym e) ∙ A .cell-answer .ensures
 
-value-at : (F : tie.After-find) → F .find .result .limit ≡ 0 → textOf (cell-at F) ≡ own-at F
-value-at F = let a = F .before .before .before .before .args in value-shown (a .rows .now) (a .count) (a .text .now) (a .catalogue .now) (a .row) (a .field) (a .which) (F .find .result) (F .find .ensures)
+-- what the cell shows
+abbrev shown-at : tie.After-a → Told.Shown
+shown-at K = K .a .given .0 .0
 
-catalogue-at : (F : tie.After-find) → (F .find .result .limit ≡ 0 → ⊥) → F .find .result .own .len ≡ 0 → let a = F .before .before .before .before .args in cell-at F ≡ cutTo (F .find .result .limit) (a .catalogue .now)
-catalogue-at F = let a = F .before .before .before .before .args in from-catalogue (a .rows .now) (a .count) (a .text .now) (a .catalogue .now) (a .row) (a .field) (a .which) (F .find .result) (F .find .ensures)
+-- they are the answer's
+values-are : (K : tie.After-a) → valuesOf (Shown (shown-at K)) ≡ values-at (K .before .before)
+values-are K = ap valuesOf (sym (K .a .given .1)) ∙ K .before .before .cell-answer .ensures
 
-plan-at : (F : tie.After-find) → (F .find .result .limit ≡ 0 → ⊥) → (F .find .result .own .len ≡ 0 → ⊥) → cell-at F ≡ cutTo (F .find .result .limit) (own-at F)
-plan-at F = let a = F .before .before .before .before .args in from-plan (a .rows .now) (a .count) (a .text .now) (a .catalogue .now) (a .row) (a .field) (a .which) (F .find .result) (F .find .ensures)
+-- the part lies in the slice of its source, and is the text
+lies-at : (K : tie.After-a) (from : Source) → shown-at K .source ≡ from → let A = K .before .before in shown-at K .at + shown-at K .len ≤ length (buffer from (text-at A .now) (catalogue-at A .now))
+lies-at K = let a = K .before .before .before .before .before .before .args in part-lies (a .rows .now) (a .count) (a .text) (a .catalogue) (a .row) (a .field) (a .which) (shown-at K) (values-are K)
 
--- ---- its range
+part-at : (K : tie.After-a) (from : Source) → shown-at K .source ≡ from
+    → let A = K .before .before in part (buffer from (text-at A) (catalogue-at A)) (shown-at K .at) (shown-at K .at + shown-at K .len - shown-at K .at) ≡ textIn (text-at A) (catalogue-at A) (values-at A)
+part-at K from e =
+    let A = K .before .before in
+    let a = A .before .before .before .before .args in
+    let n : shown-at K .at + shown-at K .len - shown-at K .at ≡ shown-at K .len = omega arith in
+    ap (part (buffer from (text-at A) (catalogue-at A)) (shown-at K .at)) n ∙ part-is (a .rows .now) (a .count) (a .text) (a .catalogue) (a .row) (a .field) (a .which) (shown-at K) (values-are K) from e
 
-absent-at : (W : tie.After-wide2) → W .wide2 .result ≡ 0 → W .before .before .find .result .own .len ≡ 0
-absent-at W e = sym (W .wide2 .ensures) ∙ e
+cell-answer-requires : tie.Need-cell-answer-requires
+cell-answer-requires c κs = search needs
 
-present-at : (W : tie.After-wide2) → (W .wide2 .result ≡ 0 → ⊥) → W .before .before .find .result .own .len ≡ 0 → ⊥
-present-at W h e = h (W .wide2 .ensures ∙ e)
+enum-known-a : tie.Need-enum-known-a
+enum-known-a c = search needs
 
-lies-at : (W : tie.After-wide2) → (W .wide2 .result ≡ 0 → ⊥) → let a = W .before .before .before .before .before .before .args in W .before .wide .result + W .wide2 .result ≤ length (a .text .now)
-lies-at W h =
-    let F = W .before .before in
-    let a = F .before .before .before .before .args in
-    rw (W .before .wide .ensures, W .wide2 .ensures) (lies (a .rows .now) (a .count) (a .text .now) (a .catalogue .now) (a .row) (a .field) (a .which) (F .find .result) (F .find .ensures) (present-at W h))
+enum-told : tie.Need-enum-told
+enum-told c = search needs
 
-part-at : (W : tie.After-wide2) → let a = W .before .before .before .before .before .before .args in take (W .before .wide .result + W .wide2 .result - W .before .wide .result) (drop (W .before .wide .result) (a .text .now)) ≡ own-at (W .before .before)
-part-at W =
-    let a = W .before .before .before .before .before .before .args in
-    let n : W .before .wide .result + W .wide2 .result - W .before .wide .result ≡ W .wide2 .result = omega arith in
-    rw (n, W .before .wide .ensures, W .wide2 .ensures)
+add-result : tie.Need-add-result
+add-result c =
+    let h = lies-at (c .before .before .before) Plan (c .enum-told .given .1) in
+    search needs
 
-find-requires : tie.Need-find-requires
-find-requires c κs = search needs
+sub-result : tie.Need-sub-result
+sub-result c = search needs
 
-wide-requires : tie.Need-wide-requires
-wide-requires c κs = search needs
+part-result-start : tie.Need-part-result-start
+part-result-start c = search needs
 
-wide-requires-2 : tie.Need-wide-requires-2
-wide-requires-2 c κs = search needs
+part-result-end : tie.Need-part-result-end
+part-result-end c = lies-at (c .before .before .before) Plan (c .enum-told .given .1)
+
+enum-told-2 : tie.Need-enum-told-2
+enum-told-2 c = search needs
+
+add-result-2 : tie.Need-add-result-2
+add-result-2 c =
+    let h = lies-at (c .before .before .before) Catalogue (c .enum-told2 .given .1) in
+    search needs
+
+sub-result-2 : tie.Need-sub-result-2
+sub-result-2 c = search needs
+
+part-result-start-2 : tie.Need-part-result-start-2
+part-result-start-2 c = search needs
+
+part-result-end-2 : tie.Need-part-result-end-2
+part-result-end-2 c = lies-at (c .before .before .before) Catalogue (c .enum-told2 .given .1)
+
+enum-told-3 : tie.Need-enum-told-3
+enum-told-3 c = search needs
 
 slice-aggregate-result : tie.Need-slice-aggregate-result
 slice-aggregate-result c = search needs
 
-returns : tie.Need-returns
-returns c =
-    let W = c .before .before .before in
-    sym (value-at (W .before .before) (c .before .if2 .taken) ∙ rw (absent-at W (c .before .before .if1 .taken)))
+enum-told-4 : tie.Need-enum-told-4
+enum-told-4 c = search needs
 
-cut-requires : tie.Need-cut-requires
-cut-requires c κs = room-at (c .before .before .before .before) (c .if2 .left)
+slice-aggregate-result-2 : tie.Need-slice-aggregate-result-2
+slice-aggregate-result-2 c = search needs
+
+returns : tie.Need-returns
+returns c = part-at (c .before .before .before .before) Plan (c .before .enum-told .given .1)
 
 returns-2 : tie.Need-returns-2
-returns-2 c = let W = c .before .before .before in c .cut .ensures ∙ sym (ap textOf (catalogue-at (W .before .before) (c .before .if2 .left) (absent-at W (c .before .before .if1 .taken))))
-
-add-own : tie.Need-add-own
-add-own c = search needs
-
-sub-own : tie.Need-sub-own
-sub-own c = search needs
-
-part-own-start : tie.Need-part-own-start
-part-own-start c = search needs
-
-part-own-end : tie.Need-part-own-end
-part-own-end c = omega (arith, lies-at (c .before) (c .if1 .left))
+returns-2 c = part-at (c .before .before .before .before) Catalogue (c .before .enum-told2 .given .1)
 
 returns-3 : tie.Need-returns-3
-returns-3 c = let W = c .before .before .before in part-at W ∙ sym (value-at (W .before .before) (c .if3 .taken))
-
-cut-requires-2 : tie.Need-cut-requires-2
-cut-requires-2 c κs = room-at (c .before .before .before .before .before) (c .if3 .left)
+returns-3 c =
+    let K = c .before .before .before .before in
+    let a = K .before .before .before .before .before .before .args in
+    empty-is (a .rows .now) (a .count) (a .text) (a .catalogue) (a .row) (a .field) (a .which) (shown-at K) (values-are K) (c .before .enum-told3 .given .1)
 
 returns-4 : tie.Need-returns-4
 returns-4 c =
-    let W = c .before .before .before .before in
-    let F = W .before .before in
-    c .cut2 .ensures ∙ ap (λ (v : List ℕ). textOf (cutTo (F .find .result .limit) v)) (part-at W) ∙ sym (ap textOf (plan-at F (c .before .if3 .left) (present-at W (c .before .before .before .if1 .left))))
+    let A = c .before .before .before in
+    let a = A .before .before .before .before .args in
+    refused-is (a .rows .now) (a .count) (a .text) (a .catalogue) (a .row) (a .field) (a .which) (refused-at A (c .before .enum-told4 .given .1))
 
 pub cell-text-spec : {M : Type 1} → statement M
 cell-text-spec =
     tie.close
     (tie.spec
-    find-requires
-    wide-requires
-    wide-requires-2
+    cell-answer-requires
+    enum-known-a
+    enum-told
+    add-result
+    sub-result
+    part-result-start
+    part-result-end
+    enum-told-2
+    add-result-2
+    sub-result-2
+    part-result-start-2
+    part-result-end-2
+    enum-told-3
     slice-aggregate-result
+    enum-told-4
+    slice-aggregate-result-2
     returns
-    cut-requires
     returns-2
-    add-own
-    sub-own
-    part-own-start
-    part-own-end
     returns-3
-    cut-requires-2
     returns-4)
