@@ -1,7 +1,8 @@
 -- Unchanged: "A refusal changes no lent byte or row, and no collector." One statement for each operation, about any result that meets its promise: where the answer
 -- carries a refusal's number, what was lent for writing is as it was. A collector changes where a page is added and nowhere else, so "already here" leaves it too.
 -- `clear` and the empty collector refuse nothing. The missing numbers, the numbers of an answer and the cells are lent nothing for writing. The numbers `told` at the
--- border are a part of the answer: every call sets them. What planlist and planfresh print of a set of pages that is refused is three lines, so of them it is a room too small that is refused.
+-- border are a part of the answer: every call sets them. Of a set of pages that is refused planlist and planfresh print three lines, so there only a room too small
+-- is a refusal.
 -- Assumes nothing.
 use mathlib.Core.Path.{_≡_, refl, ap, _∙_}
 use mathlib.Core.List.{List}

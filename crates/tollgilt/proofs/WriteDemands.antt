@@ -12,7 +12,7 @@ use Rattle.paper.specs.Plan as Said
 use Rattle.paper.specs.Reading as Paper
 use Rattle.paper.specs.Reading.{numbers}
 use Rattle.paper.specs.Writing as Spelled
-use Rattle.paper.specs.Writing.{Written, badCall, unsound, tooLong, written, sound, fresh}
+use Rattle.paper.specs.Writing.{Written, written, sound, fresh}
 use Rattle.paper.specs.Cuts.{Cut, Cut≤}
 use Rattle.paper.specs.Layout.{textOf}
 use Rattle.paper.specs.Calls.{freshCall}
@@ -96,16 +96,6 @@ module _ (out : List ℕ) (p : Plan) (rows text : List ℕ) (r : Writing) (out�
   -- Pages are given exactly when the call is well made, its numbers are sound, and a cut into at most nine pages exists.
   pub pages-exactly : (r .answer ≡ Pages) ↔ (SoundCall out p rows text × Cut≤ (showHead text p) (showRows text (p .rows) rows) 9)
   pages-exactly = (λ z. by-cause Pages .0 (ap numbersOf z), λ c. numbers-once (r .answer) Pages (by-cause Pages .1 c))
-
-  -- A refusal has no pages and changes no byte of the room.
-  pub untouched : (r .answer ≡ Pages → ⊥) → (r .pages ≡ 0) × (out′ ≡ out)
-  untouched n = at (Writes.answered out p rows text) W
-    where
-      at : (w : Written) → Writes.Promised w out r out′ → (r .pages ≡ 0) × (out′ ≡ out)
-      at badCall P = (P .pages-are, P .room-is)
-      at (unsound i) P = (P .pages-are, P .room-is)
-      at (tooLong i) P = (P .pages-are, P .room-is)
-      at (written f) P = absurd (n (P .answer-is))
 
   -- ---- pages
 
