@@ -10,7 +10,7 @@ use lib.Dec.{eqb, leb}
 use lib.ListN.{length}
 use borrow.Author.Tests.{eqb-true, eqb-false, eq-eqb, ne-eqb, le-leb, leb-true}
 use Rattle.paper.specs.Lists.{if, same}
-use Rattle.paper.proofs.Small.{no, both, neither, same-eq, eqb-comm, and-intro}
+use Rattle.paper.proofs.Small.{unequal, no, both, neither, same-eq, eqb-comm, and-intro}
 use Rattle.paper.specs.Plan.{Slots, Row, Head, Plan, sameHead, sameSlots}
 use Rattle.paper.specs.Judging.{Sheet, Judged, sheet, refused, judge}
 use Rattle.paper.specs.Reading.{Answer, refusal, plan, Judgement, stopped, sheets, judgeAll, cons, page9, has, page10, number11, rowsAt, joined, refuseAt, enough, join, decide, read}
@@ -75,7 +75,7 @@ pub record Accept (l : List Sheet) (p : Plan) : Type 0 where
 
 -- the tests of join, both ways
 
-other-alike : (s : Sheet) (k : ℕ) (l : List Sheet) → 1 ≤ k → page9 s k l ≡ 0 → Alike (s .of) (s .head) l
+pub other-alike : (s : Sheet) (k : ℕ) (l : List Sheet) → 1 ≤ k → page9 s k l ≡ 0 → Alike (s .of) (s .head) l
 other-alike s k [] h e = tt
 other-alike s k (t ∷ l) h e = at (eqb (t .of) (s .of) && sameHead (t .head) (s .head)) refl e (other-alike s (suc k) l (omega arith))
   where
@@ -101,7 +101,7 @@ again-fresh n was k (t ∷ l) h u e = at (has (t .no) was) refl e (λ v f. again
         let ne : eqb (t .no) n ≡ false = ne-eqb (t .no) n (λ q. no (sym u ∙ (ap (λ (m : ℕ). has m was) (sym q) ∙ x))) in
         rw (ne, ih (or-right (eqb (t .no) n) (has n was) u) e)
 
-again-distinct : (was : List Sheet) (k : ℕ) (l : List Sheet) → 1 ≤ k → page10 was k l ≡ 0 → Distinct l
+pub again-distinct : (was : List Sheet) (k : ℕ) (l : List Sheet) → 1 ≤ k → page10 was k l ≡ 0 → Distinct l
 again-distinct was k [] h e = tt
 again-distinct was k (t ∷ l) h e = at (has (t .no) was) e (λ f. again-distinct (t ∷ was) (suc k) l (omega arith) f)
   where
@@ -152,7 +152,8 @@ abbrev pub planOf : Plan → Answer → Plan
 planOf d (refusal n k i) = d
 planOf d (plan p) = p
 
-enough-few : (q p : Plan) → enough q ≡ plan p → (length (q .rows) ≤ 256) × (q ≡ p)
+-- few enough rows are a plan
+pub enough-few : (q p : Plan) → enough q ≡ plan p → (length (q .rows) ≤ 256) × (q ≡ p)
 enough-few q p e = at (leb (length (q .rows)) 256) refl e
   where
     at : (b : Bool) → leb (length (q .rows)) 256 ≡ b → if b (plan q) (refusal 12 0 0) ≡ plan p → (length (q .rows) ≤ 256) × (q ≡ p)
@@ -275,25 +276,24 @@ each-judged k [] (s ∷ l) e = absurd e
 each-judged k (w ∷ ws) [] e = absurd e
 each-judged k (w ∷ ws) (s ∷ l) e = rw (e .0, each-judged (suc k) ws l (e .1))
 
+-- pages that are judged to sheets are judged to these one by one
+pub judged-sheets : (k : ℕ) (ws : List (List ℕ)) (l : List Sheet) → judgeAll k ws ≡ sheets l → Each ws l
+judged-sheets k [] [] e = tt
+judged-sheets k [] (s ∷ l) e = unequal (cc)
+judged-sheets k (w ∷ ws) l e = at (judge w) refl (judgeAll (suc k) ws) refl e (λ m f. judged-sheets (suc k) ws m f)
+  where
+    at : (x : Judged) → judge w ≡ x → (y : Judgement) → judgeAll (suc k) ws ≡ y → cons x k y ≡ sheets l → ((m : List Sheet) → judgeAll (suc k) ws ≡ sheets m → Each ws m) → Each (w ∷ ws) l
+    at (refused n i) q y r e ih = unequal (cc)
+    at (sheet s) q (stopped n a i) r e ih = unequal (cc)
+    at (sheet s) q (sheets m) r e ih = let f : s ∷ m ≡ l = cc in rw (sym f) (q, ih m r)
+
 -- all pages are sheets, or the answer is a refusal
 pub judged-each : (k : ℕ) (ws : List (List ℕ)) (p : Plan) → decide (judgeAll k ws) ≡ plan p → (l : List Sheet) × Each ws l
-judged-each k [] p e = ([], tt)
-judged-each k (w ∷ ws) p e = at (judge w) refl (judgeAll (suc k) ws) refl e
+judged-each k ws p e = at (judgeAll k ws) refl e
   where
-    all : (j : ℕ) (ws : List (List ℕ)) (l : List Sheet) → judgeAll j ws ≡ sheets l → Each ws l
-    all j [] [] e = tt
-    all j [] (s ∷ l) e = let z : _≡_ {A = ℕ} 0 1 = cc in absurd (omega arith)
-    all j (w ∷ ws) l e = two (judge w) refl (judgeAll (suc j) ws) refl e (λ m f. all (suc j) ws m f)
-      where
-        two : (x : Judged) → judge w ≡ x → (y : Judgement) → judgeAll (suc j) ws ≡ y → cons x j y ≡ sheets l → ((m : List Sheet) → judgeAll (suc j) ws ≡ sheets m → Each ws m) → Each (w ∷ ws) l
-        two (refused n i) q y r e ih = let z : _≡_ {A = ℕ} 0 1 = cc in absurd (omega arith)
-        two (sheet s) q (stopped n a i) r e ih = let z : _≡_ {A = ℕ} 0 1 = cc in absurd (omega arith)
-        two (sheet s) q (sheets m) r e ih = let f : s ∷ m ≡ l = cc in rw (sym f) (q, ih m r)
-
-    at : (x : Judged) → judge w ≡ x → (y : Judgement) → judgeAll (suc k) ws ≡ y → decide (cons x k y) ≡ plan p → (l : List Sheet) × Each (w ∷ ws) l
-    at (refused n i) q y r e = no (sym (ap isPlan e))
-    at (sheet s) q (stopped n a i) r e = no (sym (ap isPlan e))
-    at (sheet s) q (sheets m) r e = (s ∷ m, (q, all (suc k) ws m r))
+    at : (y : Judgement) → judgeAll k ws ≡ y → decide y ≡ plan p → (l : List Sheet) × Each ws l
+    at (stopped n a i) r e = no (sym (ap isPlan e))
+    at (sheets l) r e = (l, judged-sheets k ws l r)
 
 pub perm-each : {f g : List (List ℕ)} → Perm f g → (l : List Sheet) → Each f l → (m : List Sheet) × Each g m × Perm l m
 perm-each nil [] e = ([], tt, nil)

@@ -9,34 +9,36 @@ use native.Mathlib.Omega.{arith}
 use lib.Dec.{leb}
 use lib.ListN.{length, take, drop, getD, length-drop, length-append}
 use lib.Seq.{ext-getD, getD-take, getD-drop, length-take-le, take-at, drop-at}
-use borrow.Author.Tests.{leb-true, leb-false, le-leb}
+use borrow.Author.Tests.{leb-true, leb-false, le-leb, lt-leb}
 use Rattle.paper.specs.Lists.{if, concat}
 use Rattle.paper.specs.Plan.{Plan}
 use Rattle.paper.specs.Judging.{Sheet, Judged, refused, sheet, judge}
 use Rattle.paper.specs.Reading.{Answer, refusal, plan, Judgement, stopped, sheets, cons, judgeAll, page9, page10, number11, joined, refuseAt, enough, join, decide, read}
-use Rattle.paper.specs.Calls.{inside, pagesAt, readAt}
+use Rattle.paper.specs.Calls.{inside, pagesAt, readAt, roomy}
 use Rattle.paper.proofs.Small.{no, both, and-intro}
-use Rattle.paper.proofs.PageNumbers.{two-to-eight}
+use Rattle.paper.proofs.Judged.{two-to-eight}
+use Rattle.paper.proofs.Causes.{Unread, no-page, many, unlike, outside, no-room}
 
 -- ---- 1 to 9 pages are never refused with 1
 
--- the numbers that reading pages can give
-abbrev Ranged : Answer → Type 0
-Ranged (refusal n k i) = (2 ≤ n) × (n ≤ 12)
-Ranged (plan p) = Unit {0}
+-- a plan, or a refusal of a number from m to 12
+abbrev pub Ranged : ℕ → Answer → Type 0
+Ranged m (refusal n k i) = (m ≤ n) × (n ≤ 12)
+Ranged m (plan p) = Unit {0}
 
-ranged-at : (n k : ℕ) (a : Answer) → 2 ≤ n → n ≤ 12 → Ranged a → Ranged (refuseAt n k a)
+ranged-at : (n k : ℕ) (a : Answer) → 9 ≤ n → n ≤ 12 → Ranged 9 a → Ranged 9 (refuseAt n k a)
 ranged-at n zero a l m y = y
 ranged-at n (suc k) a l m y = (l, m)
 
-ranged-enough : (p : Plan) → Ranged (enough p)
+ranged-enough : (p : Plan) → Ranged 9 (enough p)
 ranged-enough p = at (leb (length (p .rows)) 256)
   where
-    at : (b : Bool) → Ranged (if b (plan p) (refusal 12 0 0))
+    at : (b : Bool) → Ranged 9 (if b (plan p) (refusal 12 0 0))
     at true = tt
     at false = (omega arith, omega arith)
 
-ranged-join : (s : Sheet) (l : List Sheet) → Ranged (join (s ∷ l))
+-- joining sheets is refused with one of 9 to 12, if at all
+pub ranged-join : (s : Sheet) (l : List Sheet) → Ranged 9 (join (s ∷ l))
 ranged-join s l =
     let q : Plan = record { head = s .head; rows = joined (s ∷ l) 1 (s .of) } in
     let w : ℕ = number11 (s ∷ l) 1 (s .of) in
@@ -61,10 +63,14 @@ stops : (k : ℕ) (ws : List (List ℕ)) → Stops (judgeAll k ws)
 stops k [] = tt
 stops k (w ∷ ws) = stops-cons (judge w) k (judgeAll (suc k) ws) (two-to-eight w) (stops (suc k) ws)
 
-ranged-cons : (j : Judged) (k : ℕ) (r : Judgement) → Stops (cons j k r) → Ranged (decide (cons j k r))
+ranged-cons : (j : Judged) (k : ℕ) (r : Judgement) → Stops (cons j k r) → Ranged 2 (decide (cons j k r))
 ranged-cons (refused n i) k r x = (x .0, omega (arith, x .1))
 ranged-cons (sheet s) k (stopped n j i) x = (x .0, omega (arith, x .1))
-ranged-cons (sheet s) k (sheets l) x = ranged-join s l
+ranged-cons (sheet s) k (sheets l) x = wider (join (s ∷ l)) (ranged-join s l)
+  where
+    wider : (a : Answer) → Ranged 9 a → Ranged 2 a
+    wider (refusal n k i) r = (omega (arith, r .0), r .1)
+    wider (plan p) r = tt
 
 -- reading 1 to 9 pages is refused with one of 2 to 12, if at all
 pub two-to-twelve : (f : List (List ℕ)) (n k i : ℕ) → 1 ≤ length f → length f ≤ 9 → read f ≡ refusal n k i → (2 ≤ n) × (n ≤ 12)
@@ -73,7 +79,7 @@ two-to-twelve [] n k i a b e = absurd (omega arith)
 two-to-twelve (w ∷ ws) n k i a b e =
     let count : (leb 1 (length (w ∷ ws)) && leb (length (w ∷ ws)) 9) ≡ true = and-intro (leb 1 (length (w ∷ ws))) (leb (length (w ∷ ws)) 9) (le-leb 1 (length (w ∷ ws)) a) (le-leb (length (w ∷ ws)) 9 b) in
     let d : decide (judgeAll 1 (w ∷ ws)) ≡ refusal n k i = sym (ap (λ (x : Bool). if x (decide (judgeAll 1 (w ∷ ws))) (refusal 1 0 0)) count) ∙ e in
-    subst Ranged d (ranged-cons (judge w) 1 (judgeAll 2 ws) (stops 1 (w ∷ ws)))
+    subst (Ranged 2) d (ranged-cons (judge w) 1 (judgeAll 2 ws) (stops 1 (w ∷ ws)))
 
 -- so never with 1
 pub read-not-one : (f : List (List ℕ)) (k i : ℕ) → 1 ≤ length f → length f ≤ 9 → read f ≡ refusal 1 k i → ⊥
@@ -188,20 +194,12 @@ handed-in f = let (x, y) = laid [] f in reads-pages (concat f) (startsOf 0 f) (l
 
 -- ---- refusal 1
 
--- why a call is refused with 1
-pub data Unread (room : Bool) (b ss ns : List ℕ) : Type 0 where
-  no-room : room ≡ false → Unread room b ss ns
-  no-page : length ss ≡ 0 → Unread room b ss ns
-  many : 9 < length ss → Unread room b ss ns
-  unlike : (length ss ≡ length ns → ⊥) → Unread room b ss ns
-  outside : (j : ℕ) → j < length ss → j < length ns → length b < getD ss j 0 + getD ns j 0 → Unread room b ss ns
-
 -- the test of a call
 abbrev test : Bool → List ℕ → List ℕ → List ℕ → Bool
 test room b ss ns = room && (leb 1 (length ss) && (leb (length ss) 9 && inside b ss ns))
 
 -- some page does not lie in the buffer, or the lists differ in length
-inside-false : (room : Bool) (b ss ns : List ℕ) → inside b ss ns ≡ false → Unread room b ss ns
+inside-false : (room : Bool) (b ss ns : List ℕ) → inside b ss ns ≡ false → Unread (room ≡ false) b ss ns
 inside-false room b ss ns e = at (way ss ns e)
   where
     Why : List ℕ → List ℕ → Type 0
@@ -221,16 +219,16 @@ inside-false room b ss ns e = at (way ss ns e)
     way (s ∷ ss) [] e = inl (λ q. omega arith)
     way (s ∷ ss) (n ∷ ns) e = first-page s n ss ns (leb (s + n) (length b)) refl e (way ss ns)
 
-    at : Why ss ns → Unread room b ss ns
+    at : Why ss ns → Unread (room ≡ false) b ss ns
     at (inl h) = unlike h
     at (inr (j, x, y, z)) = outside j x y z
 
 -- the test fails for one of the reasons
-failed : (room : Bool) (b ss ns : List ℕ) → test room b ss ns ≡ false → Unread room b ss ns
+failed : (room : Bool) (b ss ns : List ℕ) → test room b ss ns ≡ false → Unread (room ≡ false) b ss ns
 failed false b ss ns e = no-room refl
 failed true b ss ns e = at (leb 1 (length ss)) refl (leb (length ss) 9) refl e
   where
-    at : (x : Bool) → leb 1 (length ss) ≡ x → (y : Bool) → leb (length ss) 9 ≡ y → (x && (y && inside b ss ns)) ≡ false → Unread true b ss ns
+    at : (x : Bool) → leb 1 (length ss) ≡ x → (y : Bool) → leb (length ss) 9 ≡ y → (x && (y && inside b ss ns)) ≡ false → Unread (true ≡ false) b ss ns
     at false p y q e = let h = leb-false 1 (length ss) p in no-page (omega arith)
     at true p false q e = many (leb-false (length ss) 9 q)
     at true p true q e = inside-false true b ss ns e
@@ -244,10 +242,10 @@ passed room b ss ns e =
     (r, leb-true 1 (length ss) l, leb-true (length ss) 9 m, i)
 
 -- so none of the reasons is there
-not-both : (room : Bool) (b ss ns : List ℕ) → test room b ss ns ≡ true → Unread room b ss ns → ⊥
+not-both : (room : Bool) (b ss ns : List ℕ) → test room b ss ns ≡ true → Unread (room ≡ false) b ss ns → ⊥
 not-both room b ss ns e = let (r, l, m, i) = passed room b ss ns e in at r l m (inside-true b ss ns i)
   where
-    at : room ≡ true → 1 ≤ length ss → length ss ≤ 9 → Inside b ss ns → Unread room b ss ns → ⊥
+    at : room ≡ true → 1 ≤ length ss → length ss ≤ 9 → Inside b ss ns → Unread (room ≡ false) b ss ns → ⊥
     at r l m I (no-room e) = no (sym r ∙ e)
     at r l m I (no-page e) = omega arith
     at r l m I (many h) = omega arith
@@ -255,26 +253,63 @@ not-both room b ss ns e = let (r, l, m, i) = passed room b ss ns e in at r l m (
     at r l m I (outside j x y z) = let w = I .ends j x in omega arith
 
 -- refusal 1 is given for just these reasons, at page 0 and place 0
-pub one : (room : Bool) (b ss ns : List ℕ) (k i : ℕ) → (readAt room b ss ns ≡ refusal 1 k i) ↔ (Unread room b ss ns × (k ≡ 0) × (i ≡ 0))
+pub one : (room : Bool) (b ss ns : List ℕ) (k i : ℕ) → (readAt room b ss ns ≡ refusal 1 k i) ↔ (Unread (room ≡ false) b ss ns × (k ≡ 0) × (i ≡ 0))
 unfolding readAt
 one room b ss ns k i = (λ e. there (test room b ss ns) refl e, λ (u, p, q). back (test room b ss ns) refl u p q)
   where
-    there : (x : Bool) → test room b ss ns ≡ x → if x (read (pagesAt b ss ns)) (refusal 1 0 0) ≡ refusal 1 k i → Unread room b ss ns × (k ≡ 0) × (i ≡ 0)
+    there : (x : Bool) → test room b ss ns ≡ x → if x (read (pagesAt b ss ns)) (refusal 1 0 0) ≡ refusal 1 k i → Unread (room ≡ false) b ss ns × (k ≡ 0) × (i ≡ 0)
     there true q e =
         let (r, l, m, h) = passed room b ss ns q in
         let n = pages-count b ss ns h in
         absurd (read-not-one (pagesAt b ss ns) k i (omega arith) (omega arith) e)
     there false q e = (failed room b ss ns q, cc, cc)
 
-    back : (x : Bool) → test room b ss ns ≡ x → Unread room b ss ns → k ≡ 0 → i ≡ 0 → if x (read (pagesAt b ss ns)) (refusal 1 0 0) ≡ refusal 1 k i
+    back : (x : Bool) → test room b ss ns ≡ x → Unread (room ≡ false) b ss ns → k ≡ 0 → i ≡ 0 → if x (read (pagesAt b ss ns)) (refusal 1 0 0) ≡ refusal 1 k i
     back true e u p q = absurd (not-both room b ss ns e u)
     back false e u p q = rw (p, q)
 
 -- without any of them the answer is that of reading the pages
-pub else-read : (room : Bool) (b ss ns : List ℕ) → (Unread room b ss ns → ⊥) → readAt room b ss ns ≡ read (pagesAt b ss ns)
+pub else-read : (room : Bool) (b ss ns : List ℕ) → (Unread (room ≡ false) b ss ns → ⊥) → readAt room b ss ns ≡ read (pagesAt b ss ns)
 unfolding readAt
 else-read room b ss ns h = at (test room b ss ns) refl
   where
     at : (x : Bool) → test room b ss ns ≡ x → if x (read (pagesAt b ss ns)) (refusal 1 0 0) ≡ read (pagesAt b ss ns)
     at true e = refl
     at false e = absurd (h (failed room b ss ns e))
+
+-- ---- the rooms
+
+-- the room is too small, said of the room itself
+unread-for : {A B : Type 0} {b ss ns : List ℕ} → (A → B) → Unread A b ss ns → Unread B b ss ns
+unread-for f (no-page e) = no-page e
+unread-for f (many h) = many h
+unread-for f (unlike h) = unlike h
+unread-for f (outside j x y z) = outside j x y z
+unread-for f (no-room a) = no-room (f a)
+
+-- refusal 1 of a call whose room is too small exactly when TooSmall is the case
+pub one-room : (TooSmall : Type 0) (room : Bool) → (room ≡ false) ↔ TooSmall → (b ss ns : List ℕ) (k i : ℕ)
+    → (readAt room b ss ns ≡ refusal 1 k i) ↔ (Unread TooSmall b ss ns × (k ≡ 0) × (i ≡ 0))
+one-room TooSmall room h b ss ns k i =
+    let O = one room b ss ns k i in
+    (λ e. let (u, x, y) = O .0 e in (unread-for (h .0) u, x, y), λ (u, x, y). O .1 (unread-for (h .1) u, x, y))
+
+-- a room of m where n are asked for
+pub room-short : (n m : ℕ) → (leb n m ≡ false) ↔ (m < n)
+room-short n m = (leb-false n m, lt-leb n m)
+
+-- the reader's room
+pub room-small : (rows text : ℕ) → (roomy rows text ≡ false) ↔ ((rows < 256) ⊎ (text < 12600))
+room-small rows text = (at (leb 256 rows) refl, back)
+  where
+    at : (x : Bool) → leb 256 rows ≡ x → (x && leb 12600 text) ≡ false → (rows < 256) ⊎ (text < 12600)
+    at true q e = inr (leb-false 12600 text e)
+    at false q e = inl (leb-false 256 rows q)
+
+    back : (rows < 256) ⊎ (text < 12600) → roomy rows text ≡ false
+    back (inl h) = rw (lt-leb 256 rows h)
+    back (inr h) = rw (lt-leb 12600 text h) (and-off (leb 256 rows))
+      where
+        and-off : (x : Bool) → x && false ≡ false
+        and-off true = refl
+        and-off false = refl

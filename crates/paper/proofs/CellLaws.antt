@@ -1,7 +1,7 @@
 -- The text of a printed cell: how long it is, where it comes from, what is marked, and which cells there are.
 -- Assumes nothing.
 use mathlib.Core.Path.{_≡_, refl, ap, sym, _∙_}
-use mathlib.Core.Logic.{_↔_}
+use mathlib.Core.Logic.{_↔_, _⊎_, inl, inr, _≢_}
 use mathlib.Core.Bool.{Bool, true, false, _&&_}
 use mathlib.Core.List.{List, [], _∷_}
 use Prim.Native.Nat.{ℕ, zero, suc, _-_, _≤_, _<_}
@@ -9,14 +9,14 @@ use native.Mathlib.Omega.{arith}
 use lib.Dec.{leb}
 use lib.ListN.{length, take}
 use lib.Seq.{length-take-le, take-length}
-use borrow.Author.Tests.{leb-true, leb-false, le-leb}
+use borrow.Author.Tests.{leb-true, leb-false, le-leb, lt-leb}
 use Rattle.paper.specs.Lists.{bytes, if, isEmpty}
 use Rattle.paper.specs.Fields.{Kind, M, is, fieldsOf}
 use Rattle.paper.specs.Plan.{Row, slot, Dose, scheme, freeText, unstated, doseFrom, doseOf}
 use Rattle.paper.specs.Cells.{CellField, name, form, morning, midday, evening, night, freeDose, substance, strength, Cell, cell, noCell, ofM, ofW, cutTo, ownOr, timeCell, freeCell, ofThree, cellOf, cellIn}
-use Rattle.paper.proofs.Small.{no, both, and-intro, if-same}
+use Rattle.paper.proofs.Small.{no, both, and-intro, if-same, unequal, Nth}
 use Rattle.paper.proofs.Told.{is-eq}
-use Rattle.paper.proofs.Small.{unequal}
+use Rattle.paper.proofs.Causes.{NoSuchCell, no-row, no-medication, none-of-three}
 
 -- ---- the words
 
@@ -53,10 +53,7 @@ own freeDose r = []
 
 -- the row of that number, counted from 1
 abbrev pub RowAt : List Row → ℕ → Row → Type 0
-RowAt [] n r = ⊥
-RowAt (x ∷ rs) zero r = ⊥
-RowAt (x ∷ rs) (suc zero) r = x ≡ r
-RowAt (x ∷ rs) (suc (suc n)) r = RowAt rs (suc n) r
+RowAt = Nth
 
 -- an index where there is one of three
 abbrev pub Indexed : CellField → Type 0
@@ -104,12 +101,12 @@ pub no-other-row : (rs : List Row) (n : ℕ) (r : Row) (f : CellField) (k : List
 no-other-row rs n r f k a e = at-row rs n r f k false a e
 
 -- a row number 0 has none
-pub no-row-zero : (rs : List Row) (f : CellField) (k : List ℕ) → cellIn rs 0 f k ≡ noCell
+no-row-zero : (rs : List Row) (f : CellField) (k : List ℕ) → cellIn rs 0 f k ≡ noCell
 no-row-zero [] f k = refl
 no-row-zero (x ∷ rs) f k = refl
 
 -- nor has one beyond the rows
-pub no-row-beyond : (rs : List Row) (n : ℕ) (f : CellField) (k : List ℕ) → length rs < n → cellIn rs n f k ≡ noCell
+no-row-beyond : (rs : List Row) (n : ℕ) (f : CellField) (k : List ℕ) → length rs < n → cellIn rs n f k ≡ noCell
 no-row-beyond [] n f k h = refl
 no-row-beyond (x ∷ rs) zero f k h = refl
 no-row-beyond (x ∷ rs) (suc zero) f k h = absurd (omega arith)
@@ -188,6 +185,75 @@ is-cell rs n f k = (there, back)
 
     back : (r : Row) × RowAt rs n r × (r .kind ≡ M) × Indexed f → (t : List ℕ) × (d : Bool) × (m : Bool) × (cellIn rs n f k ≡ cell t d m)
     back (r, a, q, x) = let (t, d, m, e) = shown r f k x in (t, d, m, cell-row rs n r f k a q ∙ e)
+
+-- ---- which there are not
+
+-- an index that is none of three
+not-three : (i : ℕ) → (ofThree i ≡ false) ↔ ((i ≡ 0) ⊎ (3 < i))
+not-three i = (at (leb 1 i) refl, back)
+  where
+    at : (x : Bool) → leb 1 i ≡ x → (x && leb i 3) ≡ false → (i ≡ 0) ⊎ (3 < i)
+    at true q e = inr (leb-false i 3 e)
+    at false q e = let h = leb-false 1 i q in inl (omega arith)
+
+    back : (i ≡ 0) ⊎ (3 < i) → ofThree i ≡ false
+    back (inl e) = rw e
+    back (inr h) = let g : 1 ≤ i = omega arith in rw (le-leb 1 i g, lt-leb i 3 h)
+
+-- a medication's cell is not there for its index alone
+no-cell-of : (r : Row) (f : CellField) (k : List ℕ) → cellOf r f k ≡ noCell → (i : ℕ) × ((f ≡ substance i) ⊎ (f ≡ strength i)) × ((i ≡ 0) ⊎ (3 < i))
+no-cell-of r f k e = at f e
+  where
+    clash : (f : CellField) → Indexed f → cellOf r f k ≡ noCell → (i : ℕ) × ((f ≡ substance i) ⊎ (f ≡ strength i)) × ((i ≡ 0) ⊎ (3 < i))
+    clash f x e = let (t, d, m, q) = shown r f k x in not-none t d m (sym e ∙ q)
+
+    by : (f : CellField) (i : ℕ) → ((1 ≤ i) × (i ≤ 3) → Indexed f) → (f ≡ substance i) ⊎ (f ≡ strength i) → cellOf r f k ≡ noCell → (b : Bool) → ofThree i ≡ b
+        → (j : ℕ) × ((f ≡ substance j) ⊎ (f ≡ strength j)) × ((j ≡ 0) ⊎ (3 < j))
+    by f i h o e true q = clash f (h (one-of-three i q)) e
+    by f i h o e false q = (i, o, not-three i .0 q)
+
+    at : (f : CellField) → cellOf r f k ≡ noCell → (i : ℕ) × ((f ≡ substance i) ⊎ (f ≡ strength i)) × ((i ≡ 0) ⊎ (3 < i))
+    at name e = clash name tt e
+    at form e = clash form tt e
+    at (substance i) e = by (substance i) i (λ h. h) (inl refl) e (ofThree i) refl
+    at (strength i) e = by (strength i) i (λ h. h) (inr refl) e (ofThree i) refl
+    at morning e = clash morning tt e
+    at midday e = clash midday tt e
+    at evening e = clash evening tt e
+    at night e = clash night tt e
+    at freeDose e = clash freeDose tt e
+
+-- there is no cell exactly where the row is not there or is no medication, or the index is none of three
+pub no-cell : (rs : List Row) (n : ℕ) (f : CellField) (k : List ℕ) → (cellIn rs n f k ≡ noCell) ↔ NoSuchCell rs n f
+no-cell rs n f k = (there rs n, back)
+  where
+    behind : (r : Row) (rs : List Row) (n : ℕ) → NoSuchCell rs (suc n) f → NoSuchCell (r ∷ rs) (suc (suc n)) f
+    behind r rs n (no-row (inl e)) = absurd (omega arith)
+    behind r rs n (no-row (inr h)) = no-row (inr (omega arith))
+    behind r rs n (no-medication q a m) = no-medication q a m
+    behind r rs n (none-of-three i o h) = none-of-three i o h
+
+    this : (r : Row) (rs : List Row) (b : Bool) → is (r .kind) M ≡ b → if b (cellOf r f k) noCell ≡ noCell → NoSuchCell (r ∷ rs) 1 f
+    this r rs true q e = let (i, o, h) = no-cell-of r f k e in none-of-three i o h
+    this r rs false q e = no-medication r refl (λ m. no (sym (ap (λ (j : Kind). is j M) m) ∙ q))
+
+    there : (rs : List Row) (n : ℕ) → cellIn rs n f k ≡ noCell → NoSuchCell rs n f
+    there [] zero e = no-row (inl refl)
+    there [] (suc n) e = no-row (inr (omega arith))
+    there (r ∷ rs) zero e = no-row (inl refl)
+    there (r ∷ rs) (suc zero) e = this r rs (is (r .kind) M) refl e
+    there (r ∷ rs) (suc (suc n)) e = behind r rs n (there rs (suc n) e)
+
+    other : (r : Row) → r .kind ≢ M → (b : Bool) → is (r .kind) M ≡ b → b ≡ false
+    other r m true q = absurd (m (is-eq (r .kind) M q))
+    other r m false q = refl
+
+    back : NoSuchCell rs n f → cellIn rs n f k ≡ noCell
+    back (no-row (inl e)) = rw e (no-row-zero rs f k)
+    back (no-row (inr h)) = no-row-beyond rs n f k h
+    back (no-medication r a m) = no-other-row rs n r f k a (other r m (is (r .kind) M) refl)
+    back (none-of-three i (inl e) h) = rw e (no-fourth rs n i k (not-three i .1 h) .0)
+    back (none-of-three i (inr e) h) = rw e (no-fourth rs n i k (not-three i .1 h) .1)
 
 -- ---- names, substances, strengths, forms
 

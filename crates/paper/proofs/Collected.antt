@@ -1,23 +1,28 @@
 -- The collector: what one holds that began empty and took single pages, what it answers, and that it reads as the same pages handed in at once.
 -- Assumes nothing.
 use mathlib.Core.Path.{_≡_, refl, ap, sym, _∙_, subst}
-use mathlib.Core.Logic.{_⊎_, inl, inr, _↔_}
+use mathlib.Core.Logic.{_⊎_, inl, inr, _↔_, _≢_}
 use mathlib.Core.Bool.{Bool, true, false, not, _&&_, _||_}
 use mathlib.Core.List.{List, [], _∷_, _++_, append-assoc, append-nil}
 use Prim.Native.Nat.{ℕ, zero, suc, _+_, _≤_, _<_}
 use native.Mathlib.Omega.{arith}
 use lib.Dec.{eqb, leb}
-use lib.ListN.{length}
-use borrow.Author.Tests.{eqb-true, eqb-false, eq-eqb, ne-eqb, le-leb}
+use lib.ListN.{length, take, drop}
+use borrow.Author.Tests.{eqb-true, eqb-false, eq-eqb, ne-eqb, leb-false, le-leb, lt-leb}
 use Rattle.paper.specs.Lists.{if, same}
 use Rattle.paper.specs.Plan.{Head, Plan, sameHead}
 use Rattle.paper.specs.Judging.{Sheet, Judged, refused, sheet, judge}
 use Rattle.paper.specs.Reading.{Answer, refusal, plan, sheets, cons, judgeAll, has, page10, number11, joined, refuseAt, enough, join, decide, read}
-use Rattle.paper.specs.Collecting.{Kept, Collector, cleared, added, alreadyHere, refusedWith, Adding, unchanged, agrees, bytesAt, sheetsIn, pagesIn, add-judged, add, without, missingIn, missingNumbers, missingCount, readCollected}
-use Rattle.paper.proofs.Small.{no, both, neither, same-eq, same-self, eqb-comm, and-intro}
+use Rattle.paper.specs.Calls.{roomy}
+use Rattle.paper.specs.Collecting.{Kept, Collector, cleared, added, alreadyHere, refusedWith, Adding, unchanged, agrees, bytesAt, sheetsIn, pagesIn, add-judged, add, without, missingIn, missingNumbers, missingCount, readCollected, addCall, collectedCall}
+use Rattle.paper.proofs.Small.{no, both, neither, same-eq, same-self, eqb-comm, and-intro, if-same, Nth}
 use Rattle.paper.proofs.AnyOrder.{Perm, head-eq, Alike, Distinct, Accept, accepts, isPlan, Each, each-judged, judged-each, any-order}
 use Rattle.paper.proofs.Small.{unequal}
-use Rattle.paper.proofs.PageNumbers.{Numbered, numbered, two-to-eight}
+use Rattle.paper.proofs.PageNumbers.{Numbered, numbered}
+use Rattle.paper.proofs.Judged.{two-to-eight}
+use Rattle.paper.proofs.CallLaws.{read-not-one, room-small}
+use Rattle.paper.proofs.Causes.{Differs, Stranger, Second}
+use Rattle.paper.proofs.Joining.{differs, not-differs, has-true, has-false}
 use Rattle.paper.proofs.AnyOrder.{same-test, NoneIn, none-nil, perm-length}
 use Rattle.paper.proofs.Reordered.{joins-alike, read-any-order}
 
@@ -568,3 +573,141 @@ unfolding add
 kept-here d k e r =
     let H = holds r in
     rw (judged-there k e d (H .judged), agrees-there k e d (H .alike), has-there k e d, bytes-there k e d (H .distinct), same-self (k .bytes))
+
+-- ---- refusal 1
+
+-- a page that lies in the buffer is not refused with 1
+not-one : (c : Collector) (w : List ℕ) (i : ℕ) → (add c w) .answer ≡ refusedWith 1 i → ⊥
+not-one c w i = at (way c w)
+  where
+    at : {r : Adding} → Way c w r → r .answer ≡ refusedWith 1 i → ⊥
+    at (broken n j q) e = let r = two-to-eight w n j q in let z : n ≡ 1 = cc in omega arith
+    at (stranger s j a) e = let z : _≡_ {A = ℕ} 9 1 = cc in omega arith
+    at (here s j a b f) e = unequal (cc)
+    at (second s j a b f) e = let z : _≡_ {A = ℕ} 10 1 = cc in omega arith
+    at (fresh s j a b) e = unequal (cc)
+
+-- a page is refused with 1 exactly when it does not lie in the buffer
+pub outside-one : (c : Collector) (b : List ℕ) (s n i : ℕ) → ((addCall c b s n) .answer ≡ refusedWith 1 i) ↔ ((length b < s + n) × (i ≡ 0))
+unfolding addCall
+outside-one c b s n i = (there (leb (s + n) (length b)) refl, λ (h, z). rw (lt-leb (s + n) (length b) h, z))
+  where
+    there : (x : Bool) → leb (s + n) (length b) ≡ x → (if x (add c (take n (drop s b))) (unchanged (refusedWith 1 0) c)) .answer ≡ refusedWith 1 i → (length b < s + n) × (i ≡ 0)
+    there true q e = absurd (not-one c (take n (drop s b)) i e)
+    there false q e = (leb-false (s + n) (length b) q, cc)
+
+-- reading a collector gives 1 exactly when the room is too small or it is empty
+pub empty-or-small : (rows text : ℕ) (c : Collector) (k i : ℕ) → Reached c
+    → (collectedCall rows text c ≡ refusal 1 k i) ↔ (((rows < 256) ⊎ (text < 12600) ⊎ (c ≡ [])) × (k ≡ 0) × (i ≡ 0))
+unfolding collectedCall readCollected
+empty-or-small rows text c k i r = (there (roomy rows text) refl, λ (h, x, y). back h x y)
+  where
+    some : (c : Collector) → Holds c → readCollected c ≡ refusal 1 k i → (c ≡ []) × (k ≡ 0) × (i ≡ 0)
+    some [] H e = let q : refusal 1 0 0 ≡ refusal 1 k i = sym empty-one ∙ e in (refl, cc, cc)
+    some (x ∷ c) H e = let h = H .few in let n = pages-length (x ∷ c) in absurd (read-not-one (pagesIn (x ∷ c)) k i (omega arith) (omega arith) e)
+
+    there : (b : Bool) → roomy rows text ≡ b → if b (readCollected c) (refusal 1 0 0) ≡ refusal 1 k i → ((rows < 256) ⊎ (text < 12600) ⊎ (c ≡ [])) × (k ≡ 0) × (i ≡ 0)
+    there true q e = let (a, x, y) = some c (holds r) e in (inr (inr a), x, y)
+    there false q e = (small (room-small rows text .0 q), cc, cc)
+      where
+        small : (rows < 256) ⊎ (text < 12600) → (rows < 256) ⊎ (text < 12600) ⊎ (c ≡ [])
+        small (inl h) = inl h
+        small (inr h) = inr (inl h)
+
+    back : (rows < 256) ⊎ (text < 12600) ⊎ (c ≡ []) → k ≡ 0 → i ≡ 0 → if (roomy rows text) (readCollected c) (refusal 1 0 0) ≡ refusal 1 k i
+    back (inl h) x y = rw (room-small rows text .1 (inl h), x, y)
+    back (inr (inl h)) x y = rw (room-small rows text .1 (inr h), x, y)
+    back (inr (inr e)) x y = rw (e, empty-one, x, y) (if-same (roomy rows text) (refusal 1 0 0))
+
+-- ---- refusals 2 to 10
+
+-- a page that judging refuses, and no other, is refused so
+pub refused-added : (c : Collector) (w : List ℕ) (n i : ℕ) → n ≤ 8 → ((add c w) .answer ≡ refusedWith n i) ↔ (judge w ≡ refused n i)
+refused-added c w n i h = (there (way c w), λ q. ap (λ (r : Adding). r .answer) (broken-first c w n i q))
+  where
+    there : {r : Adding} → Way c w r → r .answer ≡ refusedWith n i → judge w ≡ refused n i
+    there (broken m j q) e = q ∙ (cc)
+    there (stranger s j a) e = let q : 9 ≡ n = cc in absurd (omega arith)
+    there (here s j a b f) e = unequal (cc)
+    there (second s j a b f) e = let q : 10 ≡ n = cc in absurd (omega arith)
+    there (fresh s j a b) e = unequal (cc)
+
+-- "agrees" fails exactly where the first page differs
+not-agrees : (s : Sheet) (c : Collector) → (agrees s c ≡ false) ↔ Stranger s c
+not-agrees s [] = (λ e. no e, λ (k, q, d). absurd q)
+not-agrees s (k ∷ c) = (λ e. (k, refl, differs s (k .says) e), λ (j, q, d). at (agrees s (k ∷ c)) refl (rw (sym q) at d))
+  where
+    at : (b : Bool) → agrees s (k ∷ c) ≡ b → Differs s (k .says) → b ≡ false
+    at true e d = let (p, q) = agrees-first s k c .0 e in absurd (not-differs s (k .says) p q d)
+    at false e d = refl
+
+-- a page of another head or count, and no other, is refused with 9
+pub nine-added : (c : Collector) (w : List ℕ) (i : ℕ) → ((add c w) .answer ≡ refusedWith 9 i) ↔ ((s : Sheet) × (judge w ≡ sheet s) × Stranger s c × (i ≡ 0))
+nine-added c w i = (there (way c w), λ (s, j, x, z). ap (λ (r : Adding). r .answer) (stranger-refused c w s j (not-agrees s c .1 x)) ∙ ap (refusedWith 9) (sym z))
+  where
+    there : {r : Adding} → Way c w r → r .answer ≡ refusedWith 9 i → (s : Sheet) × (judge w ≡ sheet s) × Stranger s c × (i ≡ 0)
+    there (broken m j q) e = let r = two-to-eight w m j q in let z : m ≡ 9 = cc in absurd (omega arith)
+    there (stranger s j a) e = (s, j, not-agrees s c .0 a, cc)
+    there (here s j a b f) e = unequal (cc)
+    there (second s j a b f) e = let z : _≡_ {A = ℕ} 10 9 = cc in absurd (omega arith)
+    there (fresh s j a b) e = unequal (cc)
+
+-- pages and what they say, by their number
+nth-sheet : (c : Collector) (j : ℕ) (t : Sheet) → Nth (sheetsIn c) j t → (k : Kept) × Nth c j k × (k .says ≡ t)
+nth-sheet [] j t q = absurd q
+nth-sheet (k ∷ c) zero t q = absurd q
+nth-sheet (k ∷ c) (suc zero) t q = (k, refl, q)
+nth-sheet (k ∷ c) (suc (suc j)) t q = nth-sheet c (suc j) t q
+
+sheet-nth : (c : Collector) (j : ℕ) (k : Kept) → Nth c j k → Nth (sheetsIn c) j (k .says)
+sheet-nth [] j k q = absurd q
+sheet-nth (x ∷ c) zero k q = absurd q
+sheet-nth (x ∷ c) (suc zero) k q = ap (λ (y : Kept). y .says) q
+sheet-nth (x ∷ c) (suc (suc j)) k q = sheet-nth c (suc j) k q
+
+-- where no number stands twice, the bytes of a number are those of its page
+bytes-of : (c : Collector) (j : ℕ) (k : Kept) → Distinct (sheetsIn c) → Nth c j k → bytesAt (k .says .no) c ≡ k .bytes
+bytes-of [] j k d q = absurd q
+bytes-of (x ∷ c) zero k d q = absurd q
+bytes-of (x ∷ c) (suc zero) k d q = rw (sym q, eq-eqb (x .says .no) (x .says .no) refl)
+bytes-of (x ∷ c) (suc (suc j)) k d q =
+    let n = has-false (x .says .no) (sheetsIn c) (d .0) (suc j) (k .says) (sheet-nth c (suc j) k q) in
+    rw (ne-eqb (x .says .no) (k .says .no) (λ e. n (sym e))) (bytes-of c (suc j) k (d .1) q)
+
+-- a number that is there, with other bytes
+other-bytes : (c : Collector) (w : List ℕ) (s : Sheet) → Distinct (sheetsIn c) → ((has (s .no) (sheetsIn c) ≡ true) × (same w (bytesAt (s .no) c) ≡ false)) ↔ Second w s c
+other-bytes c w s d = (λ (h, f). there h f, λ (j, k, q, e, n). (at (has (s .no) (sheetsIn c)) refl j k q e, by (same w (bytesAt (s .no) c)) refl j k q e n))
+  where
+    there : has (s .no) (sheetsIn c) ≡ true → same w (bytesAt (s .no) c) ≡ false → Second w s c
+    there h f =
+        let (j, t, q, e) = has-true (s .no) (sheetsIn c) h in
+        let (k, p, x) = nth-sheet c j t q in
+        let m : k .says .no ≡ s .no = ap (λ (y : Sheet). y .no) x ∙ e in
+        (j, k, p, m, λ z. no (sym (same-self w) ∙ (ap (same w) (sym z ∙ (sym (bytes-of c j k d p) ∙ ap (λ (n : ℕ). bytesAt n c) m)) ∙ f)))
+
+    at : (b : Bool) → has (s .no) (sheetsIn c) ≡ b → (j : ℕ) (k : Kept) → Nth c j k → k .says .no ≡ s .no → b ≡ true
+    at true h j k q e = refl
+    at false h j k q e = absurd (has-false (s .no) (sheetsIn c) h j (k .says) (sheet-nth c j k q) e)
+
+    by : (b : Bool) → same w (bytesAt (s .no) c) ≡ b → (j : ℕ) (k : Kept) → Nth c j k → k .says .no ≡ s .no → k .bytes ≢ w → b ≡ false
+    by true h j k q e n = absurd (n (sym (bytes-of c j k d q) ∙ (ap (λ (m : ℕ). bytesAt m c) e ∙ sym (same-eq w (bytesAt (s .no) c) h))))
+    by false h j k q e n = refl
+
+-- a page of a number that is there, of other bytes, and no other, is refused with 10
+pub ten-added : {c : Collector} → Reached c → (w : List ℕ) (i : ℕ) → ((add c w) .answer ≡ refusedWith 10 i) ↔ ((s : Sheet) × (judge w ≡ sheet s) × (Stranger s c → ⊥) × Second w s c × (i ≡ 0))
+unfolding add
+ten-added {c} r w i = (there (way c w), λ (s, j, x, y, z). back s j (at s x (agrees s c) refl) (other-bytes c w s (holds r .distinct) .1 y) z)
+  where
+    there : {a : Adding} → Way c w a → a .answer ≡ refusedWith 10 i → (s : Sheet) × (judge w ≡ sheet s) × (Stranger s c → ⊥) × Second w s c × (i ≡ 0)
+    there (broken m j q) e = let n = two-to-eight w m j q in let z : m ≡ 10 = cc in absurd (omega arith)
+    there (stranger s j a) e = let z : _≡_ {A = ℕ} 9 10 = cc in absurd (omega arith)
+    there (here s j a b f) e = unequal (cc)
+    there (second s j a b f) e = (s, j, λ x. no (sym a ∙ not-agrees s c .1 x), other-bytes c w s (holds r .distinct) .0 (b, f), cc)
+    there (fresh s j a b) e = unequal (cc)
+
+    at : (s : Sheet) → (Stranger s c → ⊥) → (b : Bool) → agrees s c ≡ b → b ≡ true
+    at s x true e = refl
+    at s x false e = absurd (x (not-agrees s c .0 e))
+
+    back : (s : Sheet) → judge w ≡ sheet s → agrees s c ≡ true → (has (s .no) (sheetsIn c) ≡ true) × (same w (bytesAt (s .no) c) ≡ false) → i ≡ 0 → (add c w) .answer ≡ refusedWith 10 i
+    back s j a (h, f) z = rw (j, a, h, f, z)

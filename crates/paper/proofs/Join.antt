@@ -58,6 +58,11 @@ pub none-lowest : (l : List Sheet) (k n : ℕ) → ((m : ℕ) → n ≤ m → m 
 none-lowest l zero n h = refl
 none-lowest l (suc k) n h = rw (h n (omega arith) (omega arith)) (none-lowest l k (suc n) (λ m p q. h m (omega arith) (omega arith)))
 
+-- no sheets give no rows
+pub joined-none : (k n : ℕ) → joined [] n k ≡ []
+joined-none zero n = refl
+joined-none (suc k) n = joined-none k (suc n)
+
 pub skip : (s : Sheet) (l : List Sheet) (k n : ℕ) → s .no < n → joined (s ∷ l) n k ≡ joined l n k
 skip s l zero n h = refl
 skip s l (suc k) n h = rw (ne-eqb (s .no) n (omega arith), skip s l k (suc n) (omega arith))

@@ -1,7 +1,7 @@
 -- Least: the fault that a page is refused with is one of its faults, and none of its faults is lower.
 -- Assumes nothing.
-use mathlib.Core.Path.{_≡_, refl, ap, sym, _∙_}
-use mathlib.Core.Logic.{_⊎_, inl, inr}
+use mathlib.Core.Path.{_≡_, refl, ap, sym}
+use mathlib.Core.Logic.{_↔_, _⊎_, inl, inr}
 use mathlib.Core.Bool.{Bool, true, false, _&&_, _||_}
 use mathlib.Core.List.{List, [], _∷_}
 use Prim.Native.Nat.{ℕ, _≤_, _<_}
@@ -12,7 +12,7 @@ use borrow.Author.Tests.{eqb-true, eqb-false, ne-eqb, ltb-true, ltb-false, le-lt
 use Rattle.paper.specs.Lists.{if, every}
 use Rattle.paper.specs.Bytes.{isAllowed}
 use Rattle.paper.specs.Grammar.{Tag, Page, placed}
-use Rattle.paper.specs.Judging.{Fault, faults, items, Judged, refused, sheet, lower, least, verdict, judge}
+use Rattle.paper.specs.Judging.{Fault, faults, Item, items, Judged, refused, sheet, lower, least, verdict, judge}
 use Rattle.paper.proofs.Small.{no}
 use Rattle.paper.proofs.Exact.{exact}
 
@@ -20,6 +20,15 @@ use Rattle.paper.proofs.Exact.{exact}
 pub data Among {A : Type 0} (x : A) : List A → Type 0 where
   here : {l : List A} → Among x (x ∷ l)
   there : {y : A} {l : List A} → Among x l → Among x (y ∷ l)
+
+-- a list in which something stands is not empty
+pub among-some : {A : Type 0} {x : A} {l : List A} → Among x l → 1 ≤ length l
+among-some here = omega arith
+among-some (there a) = omega arith
+
+-- the fault of that number at that place
+abbrev pub fault-at : ℕ → ℕ → Fault
+fault-at n i = record { no = n; place = i }
 
 -- g is not lower than f: its number is above f's, or it is the same and its place is not before f's
 abbrev pub NotLower : Fault → Fault → Type 0
@@ -73,30 +82,33 @@ abbrev pub isSheet : Judged → Bool
 isSheet (refused n i) = false
 isSheet (sheet s) = true
 
-abbrev numberOf : Judged → ℕ
-numberOf (refused n i) = n
-numberOf (sheet s) = 0
-
-abbrev placeOf : Judged → ℕ
-placeOf (refused n i) = i
-placeOf (sheet s) = 0
-
 -- a page of 1 to 1,400 allowed bytes that is well-formed is judged by the faults of its tags
 pub judged-by-tags : (w : List ℕ) (t : List Tag) → 1 ≤ length w → length w ≤ 1400 → every isAllowed w ≡ true → Page w t
     → judge w ≡ verdict (faults [] (placed (length w) t)) (items [] (placed (length w) t))
 unfolding judge
 judged-by-tags w t a b c p = rw (ne-eqb (length w) 0 (omega arith), le-ltb 1400 (length w) b, c, exact w t .0 p)
 
--- such a page, if it is refused, is refused with one of its faults, and none of its faults is lower: "the lowest number of that page first, the lowest place within it"
-pub judged-least : (w : List ℕ) (t : List Tag) (n i : ℕ) → 1 ≤ length w → length w ≤ 1400 → every isAllowed w ≡ true → Page w t → judge w ≡ refused n i
-    → Among (record { no = n; place = i }) (faults [] (placed (length w) t))
-    × ((g : Fault) → Among g (faults [] (placed (length w) t)) → NotLower g (record { no = n; place = i }))
-judged-least w t n i a b c p e = at (faults [] (placed (length w) t)) (sym (judged-by-tags w t a b c p) ∙ e)
+-- what is not lower than another and not lower the other way round is the same
+same-fault : (f : Fault) (n i : ℕ) → NotLower f (fault-at n i) → NotLower (fault-at n i) f → (f .no ≡ n) × (f .place ≡ i)
+same-fault f n i (inl a) (inl b) = absurd (omega arith)
+same-fault f n i (inl a) (inr b) = absurd (omega (arith, b .0))
+same-fault f n i (inr a) (inl b) = absurd (omega (arith, a .0))
+same-fault f n i (inr a) (inr b) = (sym (a .0), omega (arith, a .1, b .1))
+
+-- faults give exactly the one among them that none is lower than: "the lowest number of that page first, the lowest place within it"
+pub verdict-least : (fs : List Fault) (xs : List Item) (n i : ℕ)
+    → (verdict fs xs ≡ refused n i) ↔ (Among (fault-at n i) fs × ((g : Fault) → Among g fs → NotLower g (fault-at n i)))
+verdict-least [] xs n i = (λ e. no (ap isSheet e), λ (a, b). nothing a)
   where
-    at : (l : List Fault) → verdict l (items [] (placed (length w) t)) ≡ refused n i
-        → Among (record { no = n; place = i }) l × ((g : Fault) → Among g l → NotLower g (record { no = n; place = i }))
-    at [] e = no (ap isSheet e)
-    at (f ∷ fs) e =
-        let x : n ≡ least f fs .no = sym (ap numberOf e) in
-        let y : i ≡ least f fs .place = sym (ap placeOf e) in
+    nothing : {A : Type 0} → Among (fault-at n i) [] → A
+    nothing a = absurd (let h = among-some a in omega arith)
+verdict-least (f ∷ fs) xs n i = (there, λ (a, b). back (same-fault (least f fs) n i (b (least f fs) (least-among f fs)) (least-least f fs (fault-at n i) a)))
+  where
+    there : refused (least f fs .no) (least f fs .place) ≡ refused n i → Among (fault-at n i) (f ∷ fs) × ((g : Fault) → Among g (f ∷ fs) → NotLower g (fault-at n i))
+    there e =
+        let x : n ≡ least f fs .no = cc in
+        let y : i ≡ least f fs .place = cc in
         rw (x, y) (least-among f fs, least-least f fs)
+
+    back : (least f fs .no ≡ n) × (least f fs .place ≡ i) → refused (least f fs .no) (least f fs .place) ≡ refused n i
+    back (x, y) = rw (x, y)

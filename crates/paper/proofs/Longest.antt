@@ -215,6 +215,7 @@ finish (ref r H) = fin-ref r H
 finish (inside n ns) = ahead (60 ∷ 47 ∷ []) (λ z. refl) (fin-closing n ns)
 finish (closing m ns) = fin-closing m ns
 
+-- the bytes are a well-formed page, of whatever length
 abbrev pub IsPage : List ℕ → Type 0
 IsPage w = (t : List Tag) × Page w t
 

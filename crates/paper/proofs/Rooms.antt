@@ -22,7 +22,7 @@ use Rattle.paper.proofs.Small.{no, both, if-same, below-at, same-eq}
 use Rattle.paper.proofs.Element.{good-slots}
 use Rattle.paper.proofs.Rows.{View, head, med, rec, free, AllSound, all-sound}
 use Rattle.paper.proofs.Sheets.{head-sound}
-use Rattle.paper.proofs.Join.{skip}
+use Rattle.paper.proofs.Join.{skip, joined-none}
 use Rattle.paper.proofs.AnyOrder.{Each, Accept}
 use Rattle.paper.proofs.Told.{ItemOk, ItemsOk, items-ok}
 use Rattle.paper.proofs.Canon.{strip, decimal-strip}
@@ -216,10 +216,6 @@ joined-more s l (suc k) n = at (eqb (s .no) n) refl (joined-more s l k (suc n))
         let past : joined (s ∷ l) (suc n) k ≡ joined l (suc n) k = skip s l k (suc n) (omega (arith, eqb-true (s .no) n q)) in
         omega (arith, rows-weight-append (s .rows) (joined (s ∷ l) (suc n) k), rows-weight-append (rowsAt n l) (joined l (suc n) k), ap rowsWeight past)
     at false q ih = omega (arith, ih, rows-weight-append (rowsAt n l) (joined (s ∷ l) (suc n) k), rows-weight-append (rowsAt n l) (joined l (suc n) k))
-
-joined-none : (k n : ℕ) → joined [] n k ≡ []
-joined-none zero n = refl
-joined-none (suc k) n = joined-none k (suc n)
 
 joined-weight : (l : List Sheet) (k n : ℕ) → rowsWeight (joined l n k) ≤ sheetsWeight l
 joined-weight [] k n = omega (arith, ap rowsWeight (joined-none k n))

@@ -71,6 +71,30 @@ every-all p (x ∷ s) e = let (c, d) = both (p x) (every p s) e in (c, every-all
 pub and-intro : (a b : Bool) → a ≡ true → b ≡ true → a && b ≡ true
 and-intro a b e f = rw (e, f)
 
+-- the member of that number, counted from 1
+abbrev pub Nth : {A : Type 0} → List A → ℕ → A → Type 0
+Nth [] n x = ⊥
+Nth (y ∷ l) zero x = ⊥
+Nth (y ∷ l) (suc zero) x = y ≡ x
+Nth (y ∷ l) (suc (suc n)) x = Nth l (suc n) x
+
+-- there is no member of number 0
+pub nth-zero : {A : Type 0} (l : List A) (x : A) → Nth l 0 x → ⊥
+nth-zero [] x q = q
+nth-zero (y ∷ l) x q = q
+
+-- there is one member of each number
+pub nth-once : {A : Type 0} (l : List A) (n : ℕ) (x y : A) → Nth l n x → Nth l n y → x ≡ y
+nth-once [] n x y p q = absurd p
+nth-once (z ∷ l) zero x y p q = absurd p
+nth-once (z ∷ l) (suc zero) x y p q = sym p ∙ q
+nth-once (z ∷ l) (suc (suc n)) x y p q = nth-once l (suc n) x y p q
+
+-- behind one member more the number is one higher
+pub nth-behind : {A : Type 0} (y : A) (l : List A) (n : ℕ) (x : A) → Nth l n x → Nth (y ∷ l) (suc n) x
+nth-behind y l zero x q = absurd (nth-zero l x q)
+nth-behind y l (suc n) x q = q
+
 -- a fact on every number below n, by computing
 abbrev pub below : ℕ → (ℕ → Bool) → Bool
 below zero p = true

@@ -1,10 +1,10 @@
 -- Writer: what the fresh pages of a plan are, and when the writer refuses; the demands on writing, each in one statement.
 -- Assumes nothing.
-use mathlib.Core.Path.{_≡_, refl, ap, sym, _∙_}
+use mathlib.Core.Path.{_≡_, refl, ap, sym, _∙_, subst}
 use mathlib.Core.Logic.{_↔_, _⊎_, inl, inr, _≢_}
 use mathlib.Core.Bool.{Bool, true, false, _&&_}
-use mathlib.Core.List.{List, [], _∷_, _++_}
-use Prim.Native.Nat.{ℕ, zero, suc, _+_, _*_, _-_, _≤_, _<_}
+use mathlib.Core.List.{List, [], _∷_}
+use Prim.Native.Nat.{ℕ, zero, suc, _*_, _≤_, _<_}
 use native.Mathlib.Omega.{arith}
 use lib.Dec.{leb, ltb}
 use lib.ListN.{length, length-append, take}
@@ -15,7 +15,9 @@ use Rattle.paper.specs.Plan.{Head, Row, Plan}
 use Rattle.paper.specs.Reading.{plan, read}
 use Rattle.paper.specs.Writing.{Written, badCall, unsound, tooLong, written, sound, soundHead, soundRow, heading, page, pages, cuttable, fill, firstBad, place13, place14, fresh}
 use Rattle.paper.specs.Cuts.{Fits, Cut, Cut≤}
-use Rattle.paper.proofs.Small.{no, both}
+use Rattle.paper.proofs.Small.{no, both, and-intro, Nth, nth-zero}
+use Rattle.paper.proofs.Causes.{None, Lowest, Bad}
+use Rattle.paper.proofs.Firsts.{lowest-once, Search, nowhere, somewhere, here-at, further}
 use Rattle.paper.proofs.AnyCut as C
 use Rattle.paper.proofs.BySize.{rowSize, base, sized}
 use Rattle.paper.proofs.Rows.{all-sound}
@@ -156,71 +158,107 @@ too-many p = (λ e. there e (ends p), λ n. back n (ends p))
 
 -- ---- refusal 13
 
--- row r, counted from 1, is bad, and every row before it is sound
-pub record FirstBad (l : List Row) (r : ℕ) : Type 0 where
-  pub before : List Row
-  pub row : Row
-  pub after : List Row
-  pub whole : before ++ row ∷ after ≡ l
-  pub place : r ≡ suc (length before)
-  pub sound-before : every soundRow before ≡ true
-  pub bad-row : soundRow row ≡ false
+-- the rows, counted from 0, of which this one is bad
+abbrev BadRow : List Row → ℕ → Type 0
+BadRow l j = (x : Row) × Nth l (suc j) x × (soundRow x ≡ false)
+
+search-13 : (k : ℕ) (l : List Row) → Search (BadRow l) k (firstBad k l)
+search-13 k [] = nowhere refl (λ j x. absurd (x .1))
+search-13 k (r ∷ l) = at (soundRow r) refl (search-13 (suc k) l)
+  where
+    at : (b : Bool) → soundRow r ≡ b → Search (BadRow l) (suc k) (firstBad (suc k) l) → Search (BadRow (r ∷ l)) k (if b (firstBad (suc k) l) k)
+    at true x ih = further (BadRow (r ∷ l)) k (firstBad (suc k) l) (λ (y, q, e). no (sym x ∙ (ap soundRow q ∙ e))) ih
+    at false x ih = here-at (BadRow (r ∷ l)) k (r, refl, x)
+
+none-bad : (l : List Row) → every soundRow l ≡ true → None (BadRow l)
+none-bad [] e j (x, q, f) = absurd q
+none-bad (r ∷ l) e zero (x, q, f) = no (sym (both (soundRow r) (every soundRow l) e .0) ∙ (ap soundRow q ∙ f))
+none-bad (r ∷ l) e (suc j) b = none-bad l (both (soundRow r) (every soundRow l) e .1) j b
+
+bad-none : (l : List Row) → None (BadRow l) → every soundRow l ≡ true
+bad-none [] n = refl
+bad-none (r ∷ l) n = at (soundRow r) refl (bad-none l (λ j b. n (suc j) b))
+  where
+    at : (b : Bool) → soundRow r ≡ b → every soundRow l ≡ true → (b && every soundRow l) ≡ true
+    at true x ih = ih
+    at false x ih = absurd (n 0 (r, refl, x))
 
 -- "first bad row counted from 1, 0 for the head, head first"
 abbrev pub Breaks : Plan → ℕ → Type 0
-Breaks p r = ((soundHead (p .head) ≡ false) × (r ≡ 0)) ⊎ ((soundHead (p .head) ≡ true) × FirstBad (p .rows) r)
+Breaks p r = Lowest (Bad p) r
 
-first-bad : (k : ℕ) (l : List Row) → every soundRow l ≡ false → (b : FirstBad l (suc (firstBad k l - k))) × (k ≤ firstBad k l)
-first-bad k [] e = no e
-first-bad k (r ∷ l) e = at (soundRow r) refl e (λ f. first-bad (suc k) l f)
+-- a plan is sound and nothing of it is bad, or it is not and 13's place is that of the first that is bad
+data Checked (p : Plan) : Type 0 where
+  good : sound p ≡ true → None (Bad p) → Checked p
+  broken : sound p ≡ false → Breaks p (place13 p) → Checked p
+
+checked : (p : Plan) → Checked p
+checked p = at (soundHead (p .head)) refl (search-13 1 (p .rows))
   where
-    at : (b : Bool) → soundRow r ≡ b → (b && every soundRow l) ≡ false → (every soundRow l ≡ false → (b : FirstBad l (suc (firstBad (suc k) l - suc k))) × (suc k ≤ firstBad (suc k) l))
-        → (b : FirstBad (r ∷ l) (suc (firstBad k (r ∷ l) - k))) × (k ≤ firstBad k (r ∷ l))
-    at true x e ih =
-        let (b, m) = ih e in
-        rw (x, firstBad) (record { before = r ∷ b .before; row = b .row; after = b .after; whole = ap (λ (y : List Row). r ∷ y) (b .whole); place = omega (arith, b .place); sound-before = rw (x, b .sound-before); bad-row = b .bad-row }, omega arith)
-    at false x e ih = rw (x, firstBad) (record { before = []; row = r; after = l; whole = refl; place = omega arith; sound-before = refl; bad-row = x }, omega arith)
+    -- rows count from 1, and 0 is the head
+    row : (r : ℕ) → soundHead (p .head) ≡ true → Bad p r → (j : ℕ) × (r ≡ suc j) × BadRow (p .rows) j
+    row r h (inl (z, e)) = no (sym h ∙ e)
+    row zero h (inr (x, q, e)) = absurd (nth-zero (p .rows) x q)
+    row (suc j) h (inr b) = (j, refl, b)
 
-bad-first : (k : ℕ) (b : List Row) (r : Row) (l : List Row) → every soundRow b ≡ true → soundRow r ≡ false → (firstBad k (b ++ r ∷ l) ≡ k + length b) × (every soundRow (b ++ r ∷ l) ≡ false)
-bad-first k [] r l s e = rw (e, firstBad) (omega arith, refl)
-bad-first k (q ∷ b) r l s e =
-    let (x, y) = both (soundRow q) (every soundRow b) s in
-    let (u, v) = bad-first (suc k) b r l y e in
-    rw (x, firstBad) (omega arith, v)
+    rows : soundHead (p .head) ≡ true → Search (BadRow (p .rows)) 1 (firstBad 1 (p .rows)) → Checked p
+    rows h (nowhere e n) = good (and-intro (soundHead (p .head)) (every soundRow (p .rows)) h (bad-none (p .rows) n)) (λ r b. let (j, q, c) = row r h b in n j c)
+    rows h (somewhere j e l) =
+        let q : place13 p ≡ suc j = rw (h, e) (omega arith) in
+        broken (at-false (every soundRow (p .rows)) refl) (rw q (inr (l .0), λ i c b. let (m, z, x) = row i h b in l .1 m (omega arith) x))
+      where
+        at-false : (b : Bool) → every soundRow (p .rows) ≡ b → (soundHead (p .head) && every soundRow (p .rows)) ≡ false
+        at-false true f = absurd (none-bad (p .rows) f j (l .0))
+        at-false false f = rw (h, f)
 
--- a plan that breaks a rule is not sound, and 13 has the place of the break
-breaks : (p : Plan) (r : ℕ) → Breaks p r → (sound p ≡ false) × (place13 p ≡ r)
-breaks p r (inl (e, z)) = rw (e, z) (refl, refl)
-breaks p r (inr (e, b)) =
-    let (u, v) = bad-first 1 (b .before) (b .row) (b .after) (b .sound-before) (b .bad-row) in
-    rw (e, sym (b .whole), v) (refl, omega (arith, b .place))
+    at : (b : Bool) → soundHead (p .head) ≡ b → Search (BadRow (p .rows)) 1 (firstBad 1 (p .rows)) → Checked p
+    at true h s = rows h s
+    at false h s = let q : 0 ≡ place13 p = rw h in broken (rw h) (subst (Breaks p) q (inl (refl, h), λ j c. absurd (omega arith)))
 
-unsound-breaks : (p : Plan) → sound p ≡ false → Breaks p (place13 p)
-unsound-breaks p e = at (soundHead (p .head)) refl e
+-- a plan is sound exactly when nothing of it is bad
+pub sound-none : (p : Plan) → sound p ≡ true → None (Bad p)
+sound-none p s = at (checked p)
   where
-    at : (b : Bool) → soundHead (p .head) ≡ b → (b && every soundRow (p .rows)) ≡ false → Breaks p (if b (firstBad 1 (p .rows)) 0)
-    at true x e = let (b, m) = first-bad 1 (p .rows) e in let n : suc (firstBad 1 (p .rows) - 1) ≡ firstBad 1 (p .rows) = omega arith in inr (x, rw n at b)
-    at false x e = inl (x, refl)
+    at : Checked p → None (Bad p)
+    at (good t n) = n
+    at (broken t l) = no (sym s ∙ t)
+
+pub none-sound : (p : Plan) → None (Bad p) → sound p ≡ true
+none-sound p n = at (checked p)
+  where
+    at : Checked p → sound p ≡ true
+    at (good t m) = t
+    at (broken t l) = absurd (n (place13 p) (l .0))
 
 -- 13 is given exactly when at most 256 rows are handed in and the plan breaks a rule, with the place of the first break
 pub thirteen : (p : Plan) (r : ℕ) → (fresh p ≡ unsound r) ↔ ((length (p .rows) ≤ 256) × Breaks p r)
-thirteen p r = (λ e. there e (ends p), λ (n, b). back n (breaks p r b) (ends p))
+thirteen p r = (λ e. there e (ends p) (checked p), λ (n, b). back n b (ends p) (checked p))
   where
-    there : fresh p ≡ unsound r → Ends p → (length (p .rows) ≤ 256) × Breaks p r
-    there e (many n g) = differ (sym g ∙ e) (omega arith)
-    there e (bad n s g) = let q : place13 p ≡ r = ap placeOf (sym g ∙ e) in (n, rw q at (unsound-breaks p s))
-    there e (long n s r g) = differ (sym g ∙ e) (omega arith)
-    there e (fine n s f g) = differ (sym g ∙ e) (omega arith)
+    there : fresh p ≡ unsound r → Ends p → Checked p → (length (p .rows) ≤ 256) × Breaks p r
+    there e (many n g) c = differ (sym g ∙ e) (omega arith)
+    there e (bad n s g) (good t b) = no (sym t ∙ s)
+    there e (bad n s g) (broken t l) = let q : place13 p ≡ r = ap placeOf (sym g ∙ e) in (n, subst (Breaks p) q l)
+    there e (long n s r g) c = differ (sym g ∙ e) (omega arith)
+    there e (fine n s f g) c = differ (sym g ∙ e) (omega arith)
 
-    back : length (p .rows) ≤ 256 → (sound p ≡ false) × (place13 p ≡ r) → Ends p → fresh p ≡ unsound r
-    back m (t, q) (many n g) = absurd (omega arith)
-    back m (t, q) (bad n s g) = g ∙ ap unsound q
-    back m (t, q) (long n s r g) = no (sym s ∙ t)
-    back m (t, q) (fine n s f g) = no (sym s ∙ t)
+    back : length (p .rows) ≤ 256 → Breaks p r → Ends p → Checked p → fresh p ≡ unsound r
+    back m l (many n g) c = absurd (omega arith)
+    back m l (bad n s g) (good t b) = no (sym t ∙ s)
+    back m l (bad n s g) (broken t k) = g ∙ ap unsound (lowest-once (Bad p) (place13 p) r k l)
+    back m l (long n s _ g) c = absurd (sound-none p s r (l .0))
+    back m l (fine n s f g) c = absurd (sound-none p s r (l .0))
 
 -- 13 is given, at whatever place, exactly when at most 256 rows are handed in and the plan is not sound
 pub thirteen-exactly : (p : Plan) → ((r : ℕ) × (fresh p ≡ unsound r)) ↔ ((length (p .rows) ≤ 256) × (sound p ≡ false))
-thirteen-exactly p = (λ (r, e). let (n, b) = thirteen p r .0 e in (n, breaks p r b .0), λ (n, t). (place13 p, thirteen p (place13 p) .1 (n, unsound-breaks p t)))
+thirteen-exactly p = (λ (r, e). let (n, b) = thirteen p r .0 e in (n, there r b (checked p)), λ (n, t). back n t (checked p))
+  where
+    there : (r : ℕ) → Breaks p r → Checked p → sound p ≡ false
+    there r l (good t n) = absurd (n r (l .0))
+    there r l (broken t k) = t
+
+    back : length (p .rows) ≤ 256 → sound p ≡ false → Checked p → (r : ℕ) × (fresh p ≡ unsound r)
+    back n t (good s b) = no (sym s ∙ t)
+    back n t (broken s l) = (place13 p, thirteen p (place13 p) .1 (n, l))
 
 -- ---- refusal 14
 

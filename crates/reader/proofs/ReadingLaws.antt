@@ -20,7 +20,8 @@ use Rattle.paper.specs.Layout.{textOf}
 use Rattle.paper.specs.Collecting.{maskOf}
 use Rattle.paper.specs.Calls.{inside, pagesAt, readAt, roomy, readCall}
 use Rattle.paper.proofs.Small.{unequal}
-use Rattle.paper.proofs.PageNumbers.{numbered, two-to-eight, size-place}
+use Rattle.paper.proofs.PageNumbers.{numbered}
+use Rattle.paper.proofs.Judged.{two-to-eight, size-place}
 use Rattle.paper.proofs.CallLaws.{pages-count}
 use Rattle.paper.proofs.ReadSound.{judges}
 use Rattle.paper.proofs.Rooms.{rooms}

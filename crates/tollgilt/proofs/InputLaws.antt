@@ -15,7 +15,8 @@ use Rattle.paper.specs.Reading.{Numbers, read}
 use Rattle.paper.specs.Listing.{onto, parted, refusalLines, answerLines, planlist}
 use Rattle.paper.specs.Calls.{listingRoom, inside, readAt}
 use Rattle.paper.proofs.Small.{no, both}
-use Rattle.paper.proofs.CallLaws.{many, reads-pages, Agree, only-pages, one}
+use Rattle.paper.proofs.Causes.{many}
+use Rattle.paper.proofs.CallLaws.{reads-pages, Agree, only-pages, one}
 use Rattle.paper.proofs.Rooms.{answer-fits}
 use Rattle.markup.specs.Laid.{laid}
 use Rattle.listing.specs.Split.{startsFrom, lengths}
