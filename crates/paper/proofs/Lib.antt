@@ -43,5 +43,6 @@ pub mod Collected
 pub mod MissingMask
 pub mod CellLaws
 pub mod Refusals
+pub mod Cited
 pub mod NineCases
 pub mod Examples
