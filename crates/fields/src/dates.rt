@@ -2,11 +2,14 @@
 ghost use mathlib.Core.Path.{_≡_};
 ghost use mathlib.Core.Bool.{_&&_};
 ghost use lib.Dec.{leb};
-ghost use Rattle.paper.specs.Rules.{leap, monthDays, realDay, lateDay, isBirthday, isStamp};
+ghost use Rattle.paper.specs.Rules.{leap, monthDays, realDay, lateDay, fullDate, partialDate, birthDate, isBirthday, isStamp};
 use crate::numbers::shown;
 use crate::sets::DIGIT;
 use crate::sets::all_in;
 use crate::sets::fits;
+
+// The year in which birth dates begin.
+const FIRST_YEAR: u32 = 1875;
 
 // Whether a year has a 29 February: each fourth, but of the full centuries only each fourth.
 pub fn is_leap(y: u32) -> bool
@@ -59,10 +62,10 @@ pub fn real_day(y: u32, m: u32, d: u32) -> bool
 fn late_day(y: u32, m: u32, d: u32) -> bool
     ensures { λ r. ⌜ r ≡ lateDay y m d ⌝ }
 {
-    if y > 1875 {
+    if y > FIRST_YEAR {
         return true;
     }
-    if y < 1875 {
+    if y < FIRST_YEAR {
         return false;
     }
     if m != 1 {
@@ -72,8 +75,8 @@ fn late_day(y: u32, m: u32, d: u32) -> bool
 }
 
 // Whether there is such a day, and it is after 1 January 1875.
-fn born(y: u32, m: u32, d: u32) -> bool
-    ensures { λ r. ⌜ r ≡ (realDay y m d && lateDay y m d) ⌝ }
+fn full_date(y: u32, m: u32, d: u32) -> bool
+    ensures { λ r. ⌜ r ≡ fullDate y m d ⌝ }
 {
     if real_day(y, m, d) {
         return late_day(y, m, d);
@@ -81,7 +84,30 @@ fn born(y: u32, m: u32, d: u32) -> bool
     false
 }
 
-// Whether a value is eight digits, a real day of the calendar after 1 January 1875. (That there are eight is the field's length.)
+// Whether a date is a year and month, or a year alone, that may be a birth date: 00 stands for what nobody knows.
+fn partial_date(y: u32, m: u32, d: u32) -> bool
+    ensures { λ r. ⌜ r ≡ partialDate y m d ⌝ }
+{
+    if d != 0 {
+        return false;
+    }
+    if m > 12 {
+        return false;
+    }
+    y >= FIRST_YEAR
+}
+
+// Whether a date may be a birth date.
+fn born(y: u32, m: u32, d: u32) -> bool
+    ensures { λ r. ⌜ r ≡ birthDate y m d ⌝ }
+{
+    if full_date(y, m, d) {
+        return true;
+    }
+    partial_date(y, m, d)
+}
+
+// Whether a value is eight digits that show a birth date. (That there are eight is the field's length.)
 pub fn is_birthday(v: &[u8]) -> bool
     ensures { λ r. ⌜ r ≡ isBirthday (now (v .entry)) ⌝ }
 {

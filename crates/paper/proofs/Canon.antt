@@ -19,7 +19,7 @@ abbrev pub strip : List ℕ → List ℕ
 strip [] = []
 strip (c ∷ s) = if (eqb c 48) (strip s) (c ∷ s)
 
-digit-range : (c : ℕ) → isDigit c ≡ true → (48 ≤ c) × (c ≤ 57)
+pub digit-range : (c : ℕ) → isDigit c ≡ true → (48 ≤ c) × (c ≤ 57)
 digit-range c e = let (a, b) = both (leb 48 c) (leb c 57) e in (leb-true 48 c a, leb-true c 57 b)
 
 pub number-up : (s : List ℕ) (a : ℕ) → 1 ≤ a → 1 ≤ number a s

@@ -28,7 +28,7 @@ either false b e = inr e
 or-left : (a b : Bool) → a ≡ true → a || b ≡ true
 or-left a b e = rw e
 
-or-right : (a b : Bool) → b ≡ true → a || b ≡ true
+pub or-right : (a b : Bool) → b ≡ true → a || b ≡ true
 or-right true b e = refl
 or-right false b e = e
 

@@ -45,4 +45,5 @@ pub mod CellLaws
 pub mod Refusals
 pub mod Cited
 pub mod NineCases
+pub mod Birthdays
 pub mod Examples

@@ -1,4 +1,4 @@
--- Rules: document 01, "Elements and fields". When a value keeps its field.
+-- Rules: document 01, "Elements and fields", and for birth dates document 02, ask 1. When a value keeps its field.
 -- Assumes nothing.
 use mathlib.Core.Bool.{Bool, true, false, not, _&&_, _||_}
 use mathlib.Core.List.{List, [], _∷_, _++_}
@@ -46,9 +46,21 @@ part i n v = number 0 (take n (drop i v))
 abbrev pub lateDay : ℕ → ℕ → ℕ → Bool
 lateDay y m d = ltb 1875 y || (eqb y 1875 && not (eqb m 1 && eqb d 1))
 
--- "eight digits, a real day of the calendar after 1 January 1875 (18750101)"
+-- "a real day of the calendar after 1 January 1875 (18750101)"
+abbrev pub fullDate : ℕ → ℕ → ℕ → Bool
+fullDate y m d = realDay y m d && lateDay y m d
+
+-- "a year and month with day 00, or a year with 0000. The month, when given, is 01 to 12. A partial date's year is 1875 or later."
+abbrev pub partialDate : ℕ → ℕ → ℕ → Bool
+partialDate y m d = eqb d 0 && leb m 12 && leb 1875 y
+
+-- "a birth date may be a real day as before", or a partial date
+abbrev pub birthDate : ℕ → ℕ → ℕ → Bool
+birthDate y m d = fullDate y m d || partialDate y m d
+
+-- "eight digits" that show a birth date
 abbrev pub isBirthday : List ℕ → Bool
-isBirthday v = every isDigit v && realDay (part 0 4 v) (part 4 2 v) (part 6 2 v) && lateDay (part 0 4 v) (part 4 2 v) (part 6 2 v)
+isBirthday v = every isDigit v && birthDate (part 0 4 v) (part 4 2 v) (part 6 2 v)
 
 -- "as YYYY-MM-DDThh:mm:ss, real day, 00:00:00 to 23:59:59"
 abbrev pub isStamp : List ℕ → Bool

@@ -1,4 +1,4 @@
--- `fields::dates::born` meets its contract: a real day, and a late one.
+-- `fields::dates::born` meets its contract: a full date, else a partial one.
 -- Assumes nothing.
 use mathlib.Core.Path.{sym, _∙_}
 use Prim.Native.Nat.{_-_}
@@ -6,17 +6,17 @@ use borrow.Author.Needs.{needs}
 use Rattle.fields.proofs.dates.born.Statement.{statement}
 use Rattle.fields.proofs.dates.born.Tie as tie
 
-real-day-requires : tie.Need-real-day-requires
-real-day-requires c κs = search needs
-
-late-day-requires : tie.Need-late-day-requires
-late-day-requires c κs = search needs
+full-date-requires : tie.Need-full-date-requires
+full-date-requires c κs = search needs
 
 returns : tie.Need-returns
-returns c = rw (sym (c .before .before .real-day .ensures) ∙ c .before .if1 .taken) (c .late-day .ensures)
+returns c = rw (sym (c .before .full-date .ensures) ∙ c .if1 .taken)
+
+partial-date-requires : tie.Need-partial-date-requires
+partial-date-requires c κs = search needs
 
 returns-2 : tie.Need-returns-2
-returns-2 c = rw (sym (c .before .real-day .ensures) ∙ c .if1 .left)
+returns-2 c = rw (sym (c .before .before .full-date .ensures) ∙ c .before .if1 .left) (c .partial-date .ensures)
 
 pub born-spec : {M : Type 1} → statement M
-born-spec = tie.close (tie.spec real-day-requires late-day-requires returns returns-2)
+born-spec = tie.close (tie.spec full-date-requires returns partial-date-requires returns-2)

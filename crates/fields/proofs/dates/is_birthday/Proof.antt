@@ -1,12 +1,12 @@
 -- `fields::dates::is_birthday` meets its contract: digits first, then the day that they show.
 -- Assumes nothing.
 use mathlib.Core.Path.{_≡_, sym, _∙_}
-use mathlib.Core.Bool.{true, false, _&&_}
+use mathlib.Core.Bool.{true, false}
 use Prim.Native.Nat.{_-_}
 use borrow.Author.Needs.{needs}
 use Rattle.paper.specs.Lists.{every}
 use Rattle.paper.specs.Bytes.{isDigit}
-use Rattle.paper.specs.Rules.{realDay, lateDay}
+use Rattle.paper.specs.Rules.{birthDate}
 use Rattle.fields.specs.Sets.{inSet}
 use Rattle.fields.proofs.DateLaws.{three}
 use Rattle.fields.proofs.dates.is_birthday.Statement.{statement}
@@ -31,7 +31,7 @@ returns : tie.Need-returns
 unfolding inSet
 returns c =
     let d : every isDigit (c .before .before .before .before .before .before .before .args .v .now) ≡ true = sym (c .before .before .before .before .before .all-in .ensures) ∙ c .before .before .before .before .if1 .taken in
-    rw d (c .born .ensures ∙ three (λ y m d. realDay y m d && lateDay y m d) (c .before .before .before .shown .ensures) (c .before .before .shown2 .ensures) (c .before .shown3 .ensures))
+    rw d (c .born .ensures ∙ three birthDate (c .before .before .before .shown .ensures) (c .before .before .shown2 .ensures) (c .before .shown3 .ensures))
 
 returns-2 : tie.Need-returns-2
 unfolding inSet
