@@ -34,16 +34,17 @@ fn vector(line: usize, text: &str, bytes: fn(&str) -> Vec<u8>) -> Vector {
         kind: kind.to_string(),
         pages: pages.split(',').map(bytes).collect(),
         listing: bytes(listing),
-        fresh: match fresh.strip_prefix("refused:") {
+        fresh: match fresh.strip_prefix("refused:").or(fresh.strip_prefix('!')) {
             Some(numbers) => Err(refusal(line, numbers)),
             None => Ok(fresh.split(',').map(bytes).collect()),
         },
     }
 }
 
+/// The numbers of a refusal, which stands as `refused:number:page:place` or `!number.page.place`.
 fn refusal(line: usize, numbers: &str) -> [usize; 3] {
     let parsed: Vec<usize> = numbers
-        .split(':')
+        .split([':', '.'])
         .filter_map(|number| number.parse().ok())
         .collect();
     <[usize; 3]>::try_from(parsed)
@@ -94,6 +95,14 @@ pub fn named() -> Vec<Vector> {
 #[cfg(test)]
 mod tests {
     use super::*;
+
+    #[test]
+    fn both_forms_of_a_refusal_are_read() {
+        for fresh in ["refused:7:1:63", "!7.1.63"] {
+            let read = vector(1, &format!("birth\t3c\t-\t{fresh}"), hexadecimal);
+            assert_eq!(read.fresh, Err([7, 1, 63]), "{fresh}");
+        }
+    }
 
     #[test]
     fn both_forms_of_bytes_are_read() {
