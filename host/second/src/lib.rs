@@ -1,4 +1,5 @@
-//! The independent second program: document 01 in plain Rust, to be read beside it.
+//! The independent second program: document 01, with request 1 of document 02, in plain
+//! Rust, to be read beside them.
 //!
 //! The modules follow the paper from top to bottom: [`class`] and [`markup`] hold
 //! "Bytes and spelling", [`tags`] and [`value`] take a well-formed page apart,

@@ -71,15 +71,19 @@ fn real_day(year: u32, month: u32, day: u32) -> bool {
     (1..=9999).contains(&year) && day >= 1 && day <= days(year, month)
 }
 
-/// P.b: eight digits, a real day after 18750101.
+/// P.b: eight digits, which are a real day after 18750101, or a year and month with day
+/// 00, or a year with 0000. The year of such a partial date is 1875 or later.
 fn birthday(value: &[u8]) -> bool {
-    like("99999999", value)
-        && real_day(
-            number(&value[..4]),
-            number(&value[4..6]),
-            number(&value[6..]),
-        )
-        && number(value) > 18_750_101
+    if !like("99999999", value) {
+        return false;
+    }
+    let year = number(&value[..4]);
+    let month = number(&value[4..6]);
+    let day = number(&value[6..]);
+    let full = real_day(year, month, day) && number(value) > 18_750_101;
+    let year_and_month = (1..=12).contains(&month) && day == 0;
+    let year_alone = month == 0 && day == 0;
+    full || (year_and_month || year_alone) && year >= 1875
 }
 
 /// A.t: a real day, and a time from 00:00:00 to 23:59:59.

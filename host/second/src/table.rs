@@ -27,7 +27,8 @@ pub enum Rule {
     Of(&'static str),
     /// One letter or digit.
     LetterOrDigit,
-    /// A real day of the calendar after 1 January 1875, as YYYYMMDD.
+    /// A real day of the calendar after 1 January 1875, as YYYYMMDD; or, of a year from 1875
+    /// on, YYYYMM00 or YYYY0000.
     Birthday,
     /// A real day and a time of day, as YYYY-MM-DDThh:mm:ss.
     Stamp,

@@ -193,6 +193,20 @@ fn every_part_of_the_head_is_compared() {
 }
 
 #[test]
+fn pages_with_other_birth_dates_do_not_join_however_little_is_known() {
+    let dates = ["19510000", "19510700", "19510704"];
+    for (one, other) in dates
+        .iter()
+        .flat_map(|one| dates.map(|other| (*one, other)))
+    {
+        let first = numbered(1, 2, "").replace("19510704", one);
+        let second = numbered(2, 2, "").replace("19510704", other);
+        let wanted = if one == other { (0, 0, 0) } else { (9, 2, 0) };
+        assert_eq!(triple(read(&[&first, &second])), wanted, "{one} {other}");
+    }
+}
+
+#[test]
 fn a_number_already_seen_is_refused_with_10_and_a_missing_one_with_11() {
     let n = |a| numbered(a, 3, "");
     assert_eq!(triple(read(&[&n(1), &n(2), &n(1)])), (10, 3, 0));

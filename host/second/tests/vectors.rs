@@ -5,8 +5,9 @@ use second::{planlist, read, write, Refusal};
 use std::collections::BTreeSet;
 
 /// The kinds of case that the vectors have.
-const KINDS: [&str; 14] = [
+const KINDS: [&str; 15] = [
     "bad_byte",
+    "birth",
     "bytes",
     "count",
     "field",
@@ -98,6 +99,21 @@ fn carried_vectors_have_every_kind_and_every_refusal() {
         [1, 2, 3, 9].iter().all(|count| fresh.contains(count)),
         "{fresh:?}"
     );
+}
+
+#[test]
+fn carried_birth_dates_are_read_refused_and_told_apart() {
+    let vectors = carried();
+    let births = vectors.iter().filter(|vector| vector.kind == "birth");
+    let answers: BTreeSet<usize> = births
+        .map(|vector| {
+            vector
+                .fresh
+                .as_ref()
+                .map_or_else(|refusal| refusal[0], |_| 0)
+        })
+        .collect();
+    assert_eq!(answers, [0, 7, 9].into());
 }
 
 /// The environment variable TOLLGILT_VECTORS may name a file of many more vectors.

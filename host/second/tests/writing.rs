@@ -371,10 +371,22 @@ fn a_head_that_reading_never_gives_is_refused_with_13_at_0() {
         (Name::P, "g", ""),
         (Name::P, "f", "x "),
         (Name::P, "b", "18750101"),
+        (Name::P, "b", "18740000"),
+        (Name::P, "b", "18741200"),
+        (Name::P, "b", "00000000"),
+        (Name::P, "b", "19511300"),
+        (Name::P, "b", "19510004"),
+        (Name::P, "b", "19510732"),
+        (Name::P, "b", "19000229"),
+        (Name::P, "b", "1951"),
+        (Name::P, "b", "19510700 "),
         (Name::P, "s", "F"),
         (Name::P, "t", "a~b"),
         (Name::A, "n", ""),
         (Name::A, "t", "2023-02-29T09:30:00"),
+        (Name::A, "t", "2023-03-00T09:30:00"),
+        (Name::A, "t", "2023-00-01T09:30:00"),
+        (Name::A, "t", "2023-00-00T09:30:00"),
         (Name::A, "lanr", "12345678"),
         (Name::O, "w", "85.0"),
         (Name::O, "w", "123456"),
@@ -405,6 +417,50 @@ fn a_head_that_reading_never_gives_is_refused_with_13_at_0() {
         rows: vec![],
     };
     assert_eq!(triple(write(&empty)), (13, 0, 0));
+}
+
+/// Birth dates that are read: years alone, years with a month, and days.
+const BIRTHS: [&str; 13] = [
+    "18750000", "18750100", "18750102", "18751200", "19000200", "19510000", "19510100", "19510101",
+    "19510700", "19510704", "99990000", "99991200", "99991231",
+];
+
+/// A page of a person born then.
+fn born(date: &str) -> String {
+    with("P", &[("b", date)])
+}
+
+#[test]
+fn a_birth_date_is_kept_and_written_as_it_stands() {
+    for date in BIRTHS {
+        let mut by_hand = plan_of(vec![]);
+        by_hand.head.p[second::table::slot(Name::P, "b")] = bytes(date);
+        assert_eq!(plan(&born(date)), by_hand, "{date}");
+        let pages = fresh(&born(date));
+        assert!(pages[0].contains(&format!(" b=\"{date}\"/>")), "{date}");
+        assert_eq!(plan(&pages[0]), by_hand, "{date}");
+        assert!(lists(&pages[0], &format!("MP.P.b={date}")), "{date}");
+    }
+}
+
+#[test]
+fn other_birth_dates_are_other_plans_with_other_fresh_pages() {
+    for (one, other) in BIRTHS
+        .iter()
+        .flat_map(|one| BIRTHS.map(|other| (*one, other)))
+    {
+        let same = one == other;
+        assert_eq!(
+            plan(&born(one)) == plan(&born(other)),
+            same,
+            "{one} {other}"
+        );
+        assert_eq!(
+            fresh(&born(one)) == fresh(&born(other)),
+            same,
+            "{one} {other}"
+        );
+    }
 }
 
 #[test]
