@@ -46,6 +46,7 @@ const KINDS: &[(&str, usize, Making)] = &[
     ("quotes", 5, Making::Whole(quotes_plan)),
     ("full pages", 4, Making::Whole(full_plan)),
     ("near miss", 14, Making::Elements(damage::near_miss)),
+    ("date", 3, Making::Elements(damage::date)),
     ("reference", 4, Making::Elements(damage::bad_reference)),
     ("excluded pair", 4, Making::Elements(damage::excluded_pair)),
     ("attribute", 5, Making::Elements(damage::attribute)),

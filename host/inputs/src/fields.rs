@@ -17,7 +17,7 @@ pub enum Rule {
     Text(usize, usize, usize),
     /// Up to three lines of 25 marks each.
     ThreeLines,
-    /// A day of birth after 1 January 1875.
+    /// A birth date: a day after 1 January 1875, or from 1875 on a year, or a year and month.
     Birth,
     /// One of M, W, D, X.
     Sex,

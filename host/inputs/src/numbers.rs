@@ -178,6 +178,8 @@ const HARMS: &[(&str, fn(&mut Numbers, &mut Random))] = &[
     ("near value", near_value),
     ("near value", near_value),
     ("near value", near_value),
+    ("date", date),
+    ("date", date),
     ("trailing blank", trailing_blank),
     ("one byte more", one_byte_more),
     ("byte", byte),
@@ -343,6 +345,18 @@ fn near_value(numbers: &mut Numbers, random: &mut Random) {
     let (slot, _, field) = numbers.some_field(random);
     let value = near(field.rule, random);
     numbers.set(slot, &value);
+}
+
+/// A birth date or a print time near the edge of its rule.
+fn date(numbers: &mut Numbers, random: &mut Random) {
+    let rule = *random.pick(&[Rule::Birth, Rule::Birth, Rule::Moment]);
+    let value = near(rule, random);
+    for (slot, _, _) in head_fields()
+        .into_iter()
+        .filter(|(_, _, field)| field.rule == rule)
+    {
+        numbers.set(slot, &value);
+    }
 }
 
 fn trailing_blank(numbers: &mut Numbers, random: &mut Random) {

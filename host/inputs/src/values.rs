@@ -156,12 +156,27 @@ fn day(first_year: usize, random: &mut Random) -> (usize, usize, usize) {
     (year, month, date)
 }
 
+/// A birth date: in about a third of all a year alone or a year and month, else a day.
 fn birth(random: &mut Random) -> Vec<u8> {
-    if random.chance(4) {
-        return b"18750102".to_vec();
+    const EDGES: &[&str] = &[
+        "18750102", "18750100", "18750000", "18751200", "99991200", "99990000",
+    ];
+    if random.chance(8) {
+        return random.word(EDGES).as_bytes().to_vec();
     }
     let (year, month, date) = day(1876, random);
-    format!("{year:04}{month:02}{date:02}").into_bytes()
+    let born = format!("{year:04}{month:02}{date:02}").into_bytes();
+    match random.chance(30) {
+        true => less_known(&born, random),
+        false => born,
+    }
+}
+
+/// The same birth date without its day, or without its month and day.
+pub fn less_known(born: &[u8], random: &mut Random) -> Vec<u8> {
+    let known = *random.pick(&[4, 6]);
+    let unknown = vec![b'0'; born.len() - known];
+    [&born[..known], &unknown].concat()
 }
 
 fn moment(random: &mut Random) -> Vec<u8> {
@@ -327,8 +342,22 @@ fn near_digits(fewest: usize, most: usize, random: &mut Random) -> Vec<u8> {
     digits
 }
 
+/// Year, month and day, each at or just beyond an edge, in any combination.
+fn near_day(random: &mut Random) -> (usize, usize, usize) {
+    let year = match random.below(3) {
+        0 => random.between(1873, 1877),
+        1 => *random.pick(&[0, 1, 1900, 1904, 1951, 2000, 2023, 2100, 9999]),
+        _ => random.between(0, 9999),
+    };
+    let month = *random.pick(&[0, 0, 0, 1, 2, 2, 4, 7, 9, 10, 11, 12, 12, 13, 20, 99]);
+    let date = *random.pick(&[0, 0, 0, 0, 1, 2, 4, 10, 28, 29, 30, 31, 32, 99]);
+    (year, month, date)
+}
+
+/// The edges on both sides of each rule, or any combination of year, month and day.
 fn near_birth(random: &mut Random) -> Vec<u8> {
     const BIRTHS: &[&str] = &[
+        // days
         "18750101",
         "18750102",
         "18741231",
@@ -339,19 +368,71 @@ fn near_birth(random: &mut Random) -> Vec<u8> {
         "20240229",
         "21000228",
         "19991301",
-        "19990001",
-        "19990100",
         "19990132",
         "19990431",
+        "19510732",
+        "19511232",
         "00010101",
         "99991231",
         "1999010",
         "199901011",
         "",
         "1999-1-1",
+        // a year and month
+        "18750100",
+        "18751200",
+        "18741200",
+        "18740100",
+        "18751300",
+        "18741300",
+        "18759900",
+        "18749900",
+        "19000200",
+        "19510700",
+        "19511200",
+        "19511300",
+        "19519900",
+        "00010100",
+        "00000100",
+        "99991200",
+        "99991300",
+        "99999900",
+        "195107",
+        "1951070",
+        "195107000",
+        "1951070O",
+        "195107 0",
+        "1951-07-00",
+        // a year
+        "18750000",
+        "18740000",
+        "18760000",
+        "19510000",
+        "00010000",
+        "00000000",
+        "99990000",
+        "1951",
+        "1951000",
+        "195100000",
+        "1951000O",
+        "1951 000",
+        "1951-00-00",
+        // a day without a month
         "18750001",
+        "18750002",
+        "19510001",
+        "19510004",
+        "19510031",
+        "19510032",
+        "19990001",
+        "99990031",
+        "00000001",
     ];
-    random.word(BIRTHS).as_bytes().to_vec()
+    if random.chance(50) {
+        return random.word(BIRTHS).as_bytes().to_vec();
+    }
+    let (year, month, date) = near_day(random);
+    format!("{year:04}{month:02}{date:02}").into_bytes()
 }
 
 fn near_moment(random: &mut Random) -> Vec<u8> {
@@ -373,6 +454,7 @@ fn near_moment(random: &mut Random) -> Vec<u8> {
         "2023-3-01T09:30:00",
         "2023-13-01T09:30:00",
         "2023-00-01T09:30:00",
+        "2023-00-00T09:30:00",
         "2023-04-31T09:30:00",
         "2023-04-00T09:30:00",
         "20230301093000",
@@ -380,7 +462,11 @@ fn near_moment(random: &mut Random) -> Vec<u8> {
         "2023/03/01T09:30:00",
         "2023-03-01T09.30.00",
     ];
-    random.word(MOMENTS).as_bytes().to_vec()
+    if random.chance(60) {
+        return random.word(MOMENTS).as_bytes().to_vec();
+    }
+    let (year, month, date) = near_day(random);
+    format!("{year:04}-{month:02}-{date:02}T09:30:00").into_bytes()
 }
 
 fn near_package(random: &mut Random) -> Vec<u8> {
@@ -406,6 +492,7 @@ fn near_package(random: &mut Random) -> Vec<u8> {
 mod tests {
     use super::*;
     use crate::fields::FIELDS;
+    use std::collections::BTreeSet;
 
     #[test]
     fn the_known_package_number_checks() {
@@ -443,24 +530,89 @@ mod tests {
         }
     }
 
-    #[test]
-    fn first_and_last_days_occur() {
+    /// So many right values of a rule.
+    fn drawn(rule: Rule, count: usize) -> Vec<String> {
         let mut random = Random::new(8);
         let fullness = Fullness {
             ink: Ink::Plain,
             longest: 0,
             usual: 3,
         };
-        let mut drawn = |rule| -> Vec<Vec<u8>> {
-            (0..3000)
-                .map(|_| right(rule, fullness, &mut random))
-                .collect()
-        };
-        let births = drawn(Rule::Birth);
-        for edge in ["18750102", "20000229", "24000229", "21000228"] {
-            assert!(births.contains(&edge.as_bytes().to_vec()), "{edge}");
+        let values = (0..count).map(|_| right(rule, fullness, &mut random));
+        values
+            .map(|value| String::from_utf8(value).unwrap())
+            .collect()
+    }
+
+    /// So many values near the edge of the rule of a field.
+    fn drawn_near(name: &str, count: usize) -> BTreeSet<String> {
+        let mut random = Random::new(9);
+        let values = (0..count).map(|_| value_near(name, &mut random));
+        values
+            .map(|value| String::from_utf8_lossy(&value).into_owned())
+            .collect()
+    }
+
+    #[test]
+    fn first_and_last_days_occur() {
+        let births = drawn(Rule::Birth, 4000);
+        for edge in [
+            "18750102", "18750000", "18750100", "20000229", "24000229", "21000228", "99990000",
+            "99991200", "99991231",
+        ] {
+            assert!(births.contains(&edge.to_string()), "{edge}");
         }
-        assert!(drawn(Rule::Moment).contains(&b"9999-12-31T23:59:59".to_vec()));
+        assert!(drawn(Rule::Moment, 3000).contains(&"9999-12-31T23:59:59".to_string()));
+    }
+
+    #[test]
+    fn birth_dates_are_days_and_in_a_fair_share_less() {
+        let births = drawn(Rule::Birth, 1000);
+        let years = births.iter().filter(|born| born.ends_with("0000")).count();
+        let months = births.iter().filter(|born| born.ends_with("00")).count() - years;
+        assert!((100..300).contains(&years) && (100..300).contains(&months));
+        let known = |born: &&String| !born.ends_with("00") && born.len() == 8;
+        assert!(births.iter().filter(known).count() > 500);
+    }
+
+    #[test]
+    fn less_is_known_of_a_birth_date_in_two_ways() {
+        let mut random = Random::new(3);
+        let less: BTreeSet<Vec<u8>> = (0..20)
+            .map(|_| less_known(b"19510704", &mut random))
+            .collect();
+        assert_eq!(less, [b"19510000".to_vec(), b"19510700".to_vec()].into());
+    }
+
+    #[test]
+    fn near_days_join_every_edge_of_year_month_and_day() {
+        let mut random = Random::new(9);
+        let days: BTreeSet<_> = (0..60_000).map(|_| near_day(&mut random)).collect();
+        for year in [0, 1874, 1875, 1876, 1900, 1951, 9999] {
+            for month in [0, 1, 2, 12, 13, 99] {
+                for date in [0, 1, 29, 31, 32] {
+                    let day = (year, month, date);
+                    assert!(days.contains(&day), "{day:?}");
+                }
+            }
+        }
+    }
+
+    #[test]
+    fn near_dates_lie_on_both_sides_of_each_rule() {
+        let births = drawn_near("P.b", 5000);
+        for edge in [
+            "18750101", "18750102", "18750000", "18740000", "18750100", "18741200", "19511200",
+            "19511300", "19510004", "19510732", "19000229", "19000200", "99991200", "99990000",
+            "00000000",
+        ] {
+            assert!(births.contains(edge), "{edge}");
+        }
+        let moments = drawn_near("A.t", 5000);
+        for unknown in ["-12-00T", "-00-00T", "-00-01T"] {
+            let found = moments.iter().any(|moment| moment.contains(unknown));
+            assert!(found, "{unknown}");
+        }
     }
 
     #[test]
