@@ -4,7 +4,7 @@ A cause is named only where it is certain; what a value may be is not judged her
 import re
 from typing import NamedTuple
 
-from words import ELEMENTS, EXCLUDED, FIELDS, MUST, both, field, lines, quoted, visible
+from words import ELEMENTS, EXCLUDED, FIELDS, MUST, TAKES, both, field, lines, quoted, visible
 
 HEAD = ("MP", "P", "A", "O")
 SPACES = b"\t\n\r "
@@ -153,7 +153,8 @@ def wrong_values(sheet, found, at, judge):
         return judge(page[:tag.place] + emptied + page[close:]) == (7, 1, tag.place)
 
     here = element(found, at)
-    wrong = [both("value", element=here, field=field(tag.name, letters), text=quoted(value)) for letters, value in tag.attributes if breaks(letters)]
+    wrong = [both("value", element=here, field=field(tag.name, letters), text=quoted(value), takes=TAKES.get((tag.name, letters), ""))
+             for letters, value in tag.attributes if breaks(letters)]
     if not wrong and tag.name == "MP" and breaks("a", "z"):
         wrong = [both("above", element=here, a=tag.value("a"), z=tag.value("z"), field=field("MP", "a"), other=field("MP", "z"))]
     return wrong

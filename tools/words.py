@@ -33,6 +33,12 @@ MUST = {element: [letters[:-1] for letters, *_ in fields if letters.endswith("*"
 # fields that exclude each other
 EXCLUDED = {"A": ["lanr idf", "lanr kik", "idf kik"], "S": ["c t"], "M": ["f fd", "m t", "d t", "v t", "h t", "du dud"]}
 
+# what a field takes, said beside a value that it does not take
+TAKES = {
+    ("P", "b"): (" (erlaubt: JJJJMMTT nach 18750101; Tag unbekannt: JJJJMM00; Tag und Monat unbekannt: JJJJ0000; Jahr ab 1875)",
+                 " (allowed: YYYYMMDD after 18750101; day unknown: YYYYMM00; day and month unknown: YYYY0000; year from 1875 on)"),
+}
+
 USAGE = ("tollgilt [--table | --html DATEI | --fresh ORDNER] BLATT...", "tollgilt [--table | --html FILE | --fresh DIR] SHEET...")
 
 HELP = """\
@@ -171,7 +177,7 @@ WORDS = {
     6: ("{sheet} ist kein Medikationsplan der Version 2.7, nur diese wird gelesen. Feld {field}: {text}\n{issuer}",
         "{sheet} is no medication plan of version 2.7, the only one that is read. Field {field}: {text}\n{issuer}"),
     7: ("{sheet}: Ein Wert ist so nicht erlaubt.\n{details}\n{reprint}", "{sheet}: a value is not allowed.\n{details}\n{reprint}"),
-    "value": ("{element}, Feld {field}: {text}", "{element}, field {field}: {text}"),
+    "value": ("{element}, Feld {field}: {text}{takes}", "{element}, field {field}: {text}{takes}"),
     "above": ("{element}: Seite {a} von {z} gibt es nicht; Feld {field} ist größer als Feld {other}.",
               "{element}: there is no page {a} of {z}; field {field} is above field {other}."),
     8: ("{sheet}: Eine Angabe fehlt oder verträgt sich nicht mit einer anderen.\n{details}\n{reprint}",
