@@ -86,7 +86,8 @@ enum {
     TOLLGILT_NO_CUT = 14
 };
 
-/* Lists the plan of some pages as key=value lines, each ended by byte 10, in Latin-1 like the pages, without a zero byte at the end.
+/* Lists the plan of some pages as key=value lines, each ended by byte 10, in Latin-1 like the pages, without a zero byte at the end. The date of birth,
+ * MP.P.b, is eight digits YYYYMMDD; its day, or its month and day, are 00 where nobody knows them, so that no type for days of the calendar takes every one.
  *
  *   buffer, size          the bytes that the pages lie in. They need not fill it, and may lie in any order.
  *   starts, starts_count  for each page the offset of its first byte in the buffer.

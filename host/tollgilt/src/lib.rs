@@ -113,7 +113,8 @@ fn call<const TOLD: usize>(
     }
 }
 
-/// The listing of the plan that some pages are: key=value lines, each ended by byte 10, in Latin-1 like the pages.
+/// The listing of the plan that some pages are: key=value lines, each ended by byte 10, in Latin-1 like the pages. The date of birth, `MP.P.b`, is eight
+/// digits YYYYMMDD; its day, or its month and day, are 00 where nobody knows them, so that no type for days of the calendar takes every one.
 ///
 /// The order of the pages does not matter to a listing; to a refusal it does, which counts pages in the order handed in.
 ///
