@@ -3,6 +3,7 @@
 use std::io::Write;
 use std::path::Path;
 use std::process::{Command, Stdio};
+use std::sync::LazyLock;
 use std::thread;
 
 use crate::numbers::{head, record};
@@ -58,14 +59,25 @@ fn read(given: &[u8]) -> String {
     lines + "rest kept\n"
 }
 
+/// The words of the command that runs the program on the processor of this machine.
+fn program() -> Vec<String> {
+    let asked = Path::new(env!("CARGO_MANIFEST_DIR")).join("../../tools/program");
+    let told = Command::new(&asked).args(["--command", "trial"]).output();
+    let words = told.unwrap_or_else(|error| panic!("{}: {error}", asked.display()));
+    assert!(words.status.success(), "there is no program: {words:?}");
+    let lines = String::from_utf8(words.stdout).expect("its words are text");
+    lines.lines().map(str::to_string).collect()
+}
+
 /// What the program prints for these commands.
 fn printed(commands: &[u8]) -> Vec<u8> {
-    let program = Path::new(env!("CARGO_MANIFEST_DIR")).join("../../target/bin/trial");
-    let mut child = Command::new(&program)
+    static PROGRAM: LazyLock<Vec<String>> = LazyLock::new(program);
+    let mut child = Command::new(&PROGRAM[0])
+        .args(&PROGRAM[1..])
         .stdin(Stdio::piped())
         .stdout(Stdio::piped())
         .spawn()
-        .unwrap_or_else(|error| panic!("{}: {error}: run `rt check trial`", program.display()));
+        .unwrap_or_else(|error| panic!("{}: {error}", PROGRAM[0]));
     let mut input = child.stdin.take().expect("the input is a pipe");
     thread::scope(|scope| {
         scope.spawn(move || input.write_all(commands));
