@@ -1,12 +1,12 @@
 //! Damage: breaks a page or a set of pages in one place, so that nearly always one rule is broken and no other.
 
 use crate::cut::set_numbers;
-use crate::fields::{fields_of, Rule, EXCLUDED, FIELDS};
+use crate::fields::{fields_of, EXCLUDED, FIELDS};
 use crate::plan::{Attribute, Element, Value};
 use crate::random::Random;
 use crate::references::{broken_number, broken_reference};
 use crate::spelling::LONGEST_PAGE;
-use crate::values::{less_known, near, right, value_near, Fullness, Ink};
+use crate::values::{near, otherwise_known, right, value_near, Fullness, Ink};
 
 const USUAL: Fullness = Fullness {
     ink: Ink::Plain,
@@ -35,11 +35,14 @@ pub fn near_miss(page: &mut Element, random: &mut Random) {
     element.set(field.name, Value::Meant(value));
 }
 
-/// Gives the birth date or the print time a value near the edge of its rule.
+/// Gives the birth date or the print time a value near the edge of its rule, or has more or less of the birth date known.
 pub fn date(page: &mut Element, random: &mut Random) {
     let (name, letter) = *random.pick(&[("P", "b"), ("P", "b"), ("A", "t")]);
-    let value = value_near(&format!("{name}.{letter}"), random);
     if let Some(element) = page.children.iter_mut().find(|child| child.name == name) {
+        let value = match element.meant(letter) {
+            Some(born) if name == "P" && random.chance(40) => otherwise_known(born, random),
+            _ => value_near(&format!("{name}.{letter}"), random),
+        };
         element.set(letter, Value::Meant(value));
     }
 }
@@ -237,10 +240,7 @@ pub fn head(page: &mut Element, random: &mut Random) {
         .filter(|field| !["v", "a", "z"].contains(&field.name) || name != "MP")
         .collect();
     let field = *random.pick(&fields);
-    let value = match (field.rule, element.meant(field.name)) {
-        (Rule::Birth, Some(born)) if random.chance(50) => less_known(born, random),
-        _ => right(field.rule, USUAL, random),
-    };
+    let value = right(field.rule, USUAL, random);
     match element.has(field.name) && !field.needed && random.chance(50) {
         true => element.unset(field.name),
         false if element.has(field.name) || element.takes(field.name) => {

@@ -173,10 +173,22 @@ fn birth(random: &mut Random) -> Vec<u8> {
 }
 
 /// The same birth date without its day, or without its month and day.
-pub fn less_known(born: &[u8], random: &mut Random) -> Vec<u8> {
+fn less_known(born: &[u8], random: &mut Random) -> Vec<u8> {
     let known = *random.pick(&[4, 6]);
     let unknown = vec![b'0'; born.len() - known];
     [&born[..known], &unknown].concat()
+}
+
+/// A birth date of the same year of which more or less is known.
+pub fn otherwise_known(born: &[u8], random: &mut Random) -> Vec<u8> {
+    let month = match &born[4..6] {
+        b"00" => b"07",
+        month => month,
+    };
+    let known: [&[&[u8]]; 3] = [&[b"0000"], &[month, b"00"], &[month, b"04"]];
+    let forms = known.map(|rest| [&born[..4], &rest.concat()].concat());
+    let others: Vec<_> = forms.into_iter().filter(|form| form != born).collect();
+    random.pick(&others).clone()
 }
 
 fn moment(random: &mut Random) -> Vec<u8> {
@@ -582,6 +594,21 @@ mod tests {
             .map(|_| less_known(b"19510704", &mut random))
             .collect();
         assert_eq!(less, [b"19510000".to_vec(), b"19510700".to_vec()].into());
+    }
+
+    #[test]
+    fn a_birth_date_is_otherwise_known_in_two_other_ways() {
+        let mut random = Random::new(3);
+        for (born, others) in [
+            ("19511200", ["19510000", "19511204"]),
+            ("19510000", ["19510700", "19510704"]),
+            ("19511204", ["19510000", "19511200"]),
+        ] {
+            let drawn: BTreeSet<_> = (0..20)
+                .map(|_| otherwise_known(born.as_bytes(), &mut random))
+                .collect();
+            assert_eq!(drawn, others.map(|other| other.as_bytes().to_vec()).into());
+        }
     }
 
     #[test]
