@@ -14,27 +14,31 @@ use crate::{Event, Reading};
 /// What stands in a room before a call, and must stand there afterwards wherever nothing was laid.
 const POISON: u8 = 0xA5;
 
-/// Everything that is compared for one seed: the pages of its case, a string of markup, a page of one value, and a value near the edge of each field.
-pub fn differences(seed: u64) -> Vec<String> {
+/// Everything that is compared for one seed: the pages of its case; a string of markup and a page of one value; and a value near the edge of each field.
+/// Tells how the pages of the case are answered: the number of their refusal, 0 for a plan.
+pub fn differences(seed: u64) -> (u8, Vec<String>) {
     let mut found = Vec::new();
     let mut random = Random::new(seed ^ 0x5EED);
-    let mut pages = case(seed).pages;
-    pages.push(bytes_like_page(&mut random));
-    pages.push([b"<v v=\"", &raw_value(&mut random)[..], b"\"/>"].concat());
-    set(&format!("seed {seed}"), &pages, &mut found);
+    let answer = set(&format!("seed {seed}"), &case(seed).pages, &mut found);
+    let markup = bytes_like_page(&mut random);
+    let value = [b"<v v=\"", &raw_value(&mut random)[..], b"\"/>"].concat();
+    set(
+        &format!("seed {seed}, markup"),
+        &[markup, value],
+        &mut found,
+    );
     let name = |what: &str| format!("seed {seed}: {what}");
     for element in &ELEMENTS {
         for field in element.fields {
             rule(element, field, &mut random, &name, &mut found);
         }
     }
-    found
+    (answer, found)
 }
 
 /// What is compared for a set of pages: each page's bytes, its markup, and its refusal of 2 to 8 with the place;
-/// and the set read as one call.
-pub fn set(title: &str, pages: &[Vec<u8>], found: &mut Vec<String>) {
-    reading(title, pages, found);
+/// and the set read as one call, whose answer is told.
+pub fn set(title: &str, pages: &[Vec<u8>], found: &mut Vec<String>) -> u8 {
     for (at, page) in pages.iter().enumerate() {
         let name = |what: &str| format!("{title}, page {}: {what}", at + 1);
         refused_byte(page, &name, found);
@@ -43,6 +47,7 @@ pub fn set(title: &str, pages: &[Vec<u8>], found: &mut Vec<String>) {
             found.push(name("its refusal number and place"));
         }
     }
+    reading(title, pages, found)
 }
 
 /// What no seed changes: the class of every byte, and every name under every parent and in every element.
@@ -219,13 +224,16 @@ fn rule(
 const ROOM: (usize, usize) = (256 * 48, 12_600);
 
 /// The pages handed in as one call: refusal with page and place, or the plan's numbers, rows and text; and the lent rooms wherever nothing was laid.
-fn reading(title: &str, pages: &[Vec<u8>], found: &mut Vec<String>) {
+/// Tells the number of the refusal, 0 for a plan.
+fn reading(title: &str, pages: &[Vec<u8>], found: &mut Vec<String>) -> u8 {
     let buffer = pages.concat();
     let lens: Vec<usize> = pages.iter().map(Vec::len).collect();
     let starts: Vec<usize> = (0..lens.len()).map(|at| lens[..at].iter().sum()).collect();
     let given = crate::read(&buffer, &starts, &lens, ROOM, POISON);
     let slices: Vec<&[u8]> = pages.iter().map(Vec::as_slice).collect();
-    let expected = match second::read(&slices) {
+    let answer = second::read(&slices);
+    let number = answer.as_ref().err().map_or(0, |refusal| refusal.number);
+    let expected = match answer {
         Err(refusal) => Reading {
             refusal: [
                 refusal.number.into(),
@@ -255,4 +263,5 @@ fn reading(title: &str, pages: &[Vec<u8>], found: &mut Vec<String>) {
             given.refusal, expected.refusal
         ));
     }
+    number
 }

@@ -13,8 +13,10 @@ use compare::{cells, collecting, printing, rounds, writing};
 /// What is counted beside the seeds: how often each thing happened.
 type Tally = BTreeMap<String, u64>;
 
-fn layers(seed: u64, _: &mut Tally) -> Vec<String> {
-    rounds::differences(seed)
+fn layers(seed: u64, tally: &mut Tally) -> Vec<String> {
+    let (answer, found) = rounds::differences(seed);
+    *tally.entry(format!("answer {answer}")).or_default() += 1;
+    found
 }
 
 fn fresh(seed: u64, tally: &mut Tally) -> Vec<String> {
