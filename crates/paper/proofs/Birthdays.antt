@@ -9,7 +9,7 @@ use Prim.Native.Nat.{ℕ, zero, suc, _+_, _*_, _≤_, _<_}
 use Prim.Native.String as Str
 use native.Mathlib.Omega.{arith}
 use lib.Dec.{eqb, leb, ltb}
-use lib.ListN.{length, replicate}
+use lib.ListN.{length}
 use borrow.Author.Tests.{eqb-true, eqb-false, leb-true, ltb-true, ltb-false, eq-eqb, ne-eqb, le-leb}
 use Rattle.paper.specs.Lists.{bytes, same, every, count}
 use Rattle.paper.specs.Bytes.{isDigit, isDecoded}
@@ -25,6 +25,7 @@ use Rattle.paper.proofs.Faulty.{or-right}
 use Rattle.paper.proofs.Canon.{digit-range}
 use Rattle.paper.proofs.Writer.{same-pages}
 use Rattle.paper.proofs.NineCases.{born}
+use Rattle.paper.proofs.Examples.{headOf, planOf}
 
 -- ---- the words
 
@@ -196,17 +197,7 @@ new-exactly v e = let (g, b) = both (every isDigit v) (birthDate y m d) e in (da
 
 -- a plan without rows and with this birth date
 abbrev pub noted : Str.String → Plan
-noted b = record {
-  head = record {
-    patch = 0;
-    ident = bytes "00112233445566778899AABBCCDDEEFF";
-    lang = bytes "de-DE";
-    person = bytes "Ida" ∷ bytes "Kern" ∷ bytes b ∷ replicate 5 [];
-    author = replicate 3 [] ++ (bytes "Praxis Holm" ∷ (replicate 5 [] ++ bytes "2023-03-01T09:30:00" ∷ []));
-    measures = replicate 7 [];
-  };
-  rows = [];
-}
+noted b = planOf (headOf 0 "de-DE" b) []
 
 -- its fresh sheet
 abbrev pub freshOf : Str.String → List (List ℕ)

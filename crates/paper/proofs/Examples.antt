@@ -235,7 +235,7 @@ medicationOf n gs ws = record { kind = M; pzn = n; slots = tail (slotsFrom (fiel
     substances (w ∷ l) = slotsFrom (fieldsOf W) w ∷ substances l
 
 -- a head with this patch, this language and this birthday
-abbrev headOf : ℕ → Str.String → Str.String → Head
+abbrev pub headOf : ℕ → Str.String → Str.String → Head
 headOf n l b = record {
   patch = n;
   ident = bytes "00112233445566778899AABBCCDDEEFF";
@@ -269,7 +269,7 @@ abbrev second : Row → Plan
 second r = record { head = goodHead; rows = rowOf S (("c", "412") ∷ []) ∷ r ∷ [] }
 
 -- a plan with this head and these rows
-abbrev planOf : Head → List Row → Plan
+abbrev pub planOf : Head → List Row → Plan
 planOf h rs = record { head = h; rows = rs }
 
 -- a plan for the writer, and what is expected: a refusal's number and place, or 0 and the number of fresh pages
