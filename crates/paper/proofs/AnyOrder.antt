@@ -212,7 +212,7 @@ perm-alike z h (skip x p) a = (a .0, a .1, perm-alike z h p (a .2))
 perm-alike z h (swap x y l) a = (a .2 .0, a .2 .1, (a .0, a .1, a .2 .2))
 perm-alike z h (trans p q) a = perm-alike z h q (perm-alike z h p a)
 
-or-swap : (a b c : Bool) → a || (b || c) ≡ b || (a || c)
+pub or-swap : (a b c : Bool) → a || (b || c) ≡ b || (a || c)
 or-swap true true c = refl
 or-swap true false c = refl
 or-swap false true c = refl

@@ -42,6 +42,7 @@ pub mod Reordered
 pub mod Collected
 pub mod MissingMask
 pub mod CellLaws
+pub mod Indexed
 pub mod Refusals
 pub mod Cited
 pub mod NineCases

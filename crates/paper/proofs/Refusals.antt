@@ -2,8 +2,9 @@
 -- its cause is there and the causes that go first are not. The causes, in the table's words, are those of Causes; `Lowest Q k` is "first such",
 -- `None Q` "none is".
 -- Assumes nothing.
-use mathlib.Core.Path.{_≡_, ap, sym, _∙_, subst}
-use mathlib.Core.Logic.{_↔_, _⊎_}
+use mathlib.Core.Path.{_≡_, refl, ap, sym, _∙_, subst}
+use mathlib.Core.Bool.{Bool, true, false}
+use mathlib.Core.Logic.{_↔_, _⊎_, _≢_}
 use mathlib.Core.List.{List, [], _∷_}
 use Prim.Native.Nat.{ℕ, zero, suc, _+_, _≤_, _<_}
 use native.Mathlib.Omega.{arith}
@@ -14,14 +15,17 @@ use Rattle.paper.specs.Plan.{Row, Plan}
 use Rattle.paper.specs.Judging.{Sheet, Judged, refused, sheet, judge, faults, items, sheetOf, verdict}
 use Rattle.paper.specs.Reading.{Answer, refusal, plan, Judgement, join, decide, read}
 use Rattle.paper.specs.Writing.{badCall, unsound, tooLong, fresh}
-use Rattle.paper.specs.Calls.{roomy, readCall, listCall, freshCall}
+use Rattle.paper.specs.Calls.{roomy, readCall, listCall, freshCall, findCall}
 use Rattle.paper.specs.Collecting.{Collector, refusedWith, add, addCall, collectedCall}
 use Rattle.paper.specs.Cells.{CellField, noCell, cellIn}
-use Rattle.paper.proofs.Small.{Nth, nth-zero, nth-once}
+use Rattle.paper.specs.Index as Index
+use Rattle.paper.specs.Index.{Pair, indexOf, askable, buildable, asked}
+use Rattle.paper.proofs.Small.{no, unequal, Nth, nth-zero, nth-once}
 use Rattle.paper.proofs.Longest.{IsPage}
 use Rattle.paper.proofs.CallLaws.{Ranged, ranged-join, one-room, room-small, room-short}
 use Rattle.paper.proofs.Collected.{Reached, outside-one, empty-or-small, refused-added, nine-added, ten-added}
 use Rattle.paper.proofs.CellLaws.{no-cell}
+use Rattle.paper.proofs.Indexed.{unaskable, refused-exactly, stale-exactly}
 use Rattle.paper.proofs.Judged.{not-both, all-allowed, longest-once, Way, by-size, by-byte, by-form, by-tags, way, verdict-number, judged-tags, judged-cause, cause5, cause6, cause7, cause8, one-more, below5, below6, below7, below8, clean, verdict-sheet}
 use Rattle.paper.proofs.Faulty.{Cause, of-five, of-six, of-seven, of-eight, has-cause, cause-has}
 use Rattle.paper.proofs.Firsts.{lowest-once, lowest-alike}
@@ -48,6 +52,22 @@ one-listing out = one-room (out < 25200) (leb 25200 out) (room-short 25200 out)
 pub one-afresh : (out : ℕ) (b ss ns : List ℕ) (k i : ℕ) → (freshCall out b ss ns ≡ refusal 1 k i) ↔ (Unread (out < 12600) b ss ns × (k ≡ 0) × (i ≡ 0))
 unfolding freshCall
 one-afresh out = one-room (out < 12600) (leb 12600 out) (room-short 12600 out)
+
+-- a call that finds a package number in pages, with a list of so many rows lent
+pub one-finding : (list : ℕ) (b ss ns : List ℕ) (k i : ℕ) → (findCall list b ss ns ≡ refusal 1 k i) ↔ (Unread (list < 256) b ss ns × (k ≡ 0) × (i ≡ 0))
+unfolding findCall
+one-finding list = one-room (list < 256) (leb 256 list) (room-short 256 list)
+
+-- building an index, and asking one
+pub one-building : (count rows lent : ℕ) → (buildable count rows lent ≡ false) ↔ ((256 < count) ⊎ (rows < count) ⊎ (lent < 256))
+one-building count rows lent = unaskable count rows 256 lent
+
+pub one-asking : (count rows pairs lent : ℕ) (rs : List Row) (l : List Pair) (n : ℕ)
+    → (asked (askable count rows pairs lent) rs l n ≡ Index.badCall) ↔ ((256 < count) ⊎ (rows < count) ⊎ (lent < pairs))
+one-asking count rows pairs lent rs l n =
+    let R = refused-exactly (askable count rows pairs lent) rs l n in
+    let U = unaskable count rows pairs lent in
+    (λ e. U .0 (R .0 e), λ u. R .1 (U .1 u))
 
 -- the writer: "a row count above 256"
 pub one-writing : (p : Plan) → (fresh p ≡ badCall) ↔ (256 < length (p .rows))
@@ -289,3 +309,13 @@ pub fourteen : (p : Plan) (r : ℕ) → (fresh p ≡ tooLong r) ↔ ((length (p 
 fourteen p r =
     let F = Writer.fourteen-exactly p r in
     (λ e. let (n, s, u) = F .0 e in (n, Writer.sound-none p s, u), λ (n, b, u). F .1 (n, Writer.none-sound p b, u))
+
+-- ---- 20, at page 0 and place 0: "index doesn't match, tested after 1"
+
+pub twenty : (count rows pairs lent : ℕ) (rs : List Row) (l : List Pair) (n : ℕ)
+    → (asked (askable count rows pairs lent) rs l n ≡ Index.stale) ↔ ((askable count rows pairs lent ≡ true) × (l ≢ indexOf rs))
+twenty count rows pairs lent rs l n = at (askable count rows pairs lent)
+  where
+    at : (fit : Bool) → (asked fit rs l n ≡ Index.stale) ↔ ((fit ≡ true) × (l ≢ indexOf rs))
+    at true = (λ e. (refl, stale-exactly rs l n .0 e), λ (f, d). stale-exactly rs l n .1 d)
+    at false = (λ e. unequal (cc (e, refused-exactly false rs l n .1 refl)), λ (f, d). no (sym f))

@@ -303,7 +303,7 @@ linesSize k [] vs = 0
 linesSize k (f ∷ fs) [] = 0
 linesSize k (f ∷ fs) (v ∷ vs) = lineSize k f v + linesSize k fs vs
 
-line-length : (k v : List ℕ) (ls : List Line) → length (print (line k v ∷ ls)) ≡ length k + (2 + length v) + length (print ls)
+pub line-length : (k v : List ℕ) (ls : List Line) → length (print (line k v ∷ ls)) ≡ length k + (2 + length v) + length (print ls)
 line-length k v ls = omega (arith, length-append k (61 ∷ (v ++ 10 ∷ print ls)), length-append v (10 ∷ print ls))
 
 print-append : (a b : List Line) → length (print (a ++ b)) ≡ length (print a) + length (print b)
@@ -382,7 +382,7 @@ head-lines h e =
       element-lines O (h .measures) (omega arith),
     )
 
-count-short : (n : ℕ) → n ≤ 256 → length (numeral n) ≤ 3
+pub count-short : (n : ℕ) → n ≤ 256 → length (numeral n) ≤ 3
 count-short n h = leb-true (length (numeral n)) 3 (below-at 257 (λ m. leb (length (numeral m)) 3) refl n (omega arith))
 
 -- A sound plan's listing is not longer than twice what the plan costs in pages.

@@ -56,3 +56,7 @@ listCall out b ss ns = readAt (leb listingRoom out) b ss ns
 -- a call that writes pages afresh into so many bytes: what it reads, before `fresh` writes it
 unfoldable pub freshCall : ℕ → List ℕ → List ℕ → List ℕ → Answer
 freshCall out b ss ns = readAt (leb pageRoom out) b ss ns
+
+-- a call that finds a package number in pages, with room for so many rows in the lent list; document 02, ask 2: "less than its room is 1"
+unfoldable pub findCall : ℕ → List ℕ → List ℕ → List ℕ → Answer
+findCall list b ss ns = readAt (leb rowRoom list) b ss ns

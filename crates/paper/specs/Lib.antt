@@ -16,3 +16,4 @@ pub mod Listing
 pub mod Calls
 pub mod Collecting
 pub mod Cells
+pub mod Index
