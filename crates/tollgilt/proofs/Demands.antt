@@ -77,7 +77,7 @@ said d (Paper.refusal n k i) = d
 said d (Paper.plan p) = p
 
 -- an answer has one plan
-plan-once : {a : Paper.Answer} {p q : Said.Plan} → a ≡ Paper.plan p → a ≡ Paper.plan q → p ≡ q
+pub plan-once : {a : Paper.Answer} {p q : Said.Plan} → a ≡ Paper.plan p → a ≡ Paper.plan q → p ≡ q
 unfolding said
 plan-once {a} {p} {q} e f = ap (said p) (sym e ∙ f)
 

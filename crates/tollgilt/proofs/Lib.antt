@@ -1,8 +1,9 @@
--- What is asked of fresh pages, carried over to the code: of pages written afresh (Demands), and of an app's own plan (WriteDemands); that a refusal changes nothing
--- (Unchanged); that pages collected one after another are written as those handed in at once (Collected); that what is promised leaves no second result (Unique); and the
--- laws behind the listing of a call, its fresh pages, and what is printed for an input.
+-- What is asked of fresh pages, carried over to the code: of pages written afresh (Demands), and of an app's own plan (WriteDemands); what is asked of finding a package
+-- number (FindDemands); that a refusal changes nothing (Unchanged); that pages collected one after another are written as those handed in at once (Collected); that what is
+-- promised leaves no second result (Unique); and the laws behind the listing of a call, its fresh pages, finding a number in it, and what is printed for an input.
 pub mod Demands
 pub mod WriteDemands
+pub mod FindDemands
 pub mod Unchanged
 pub mod Collected
 pub mod Unique
@@ -12,3 +13,5 @@ pub mod FreshWritten
 pub mod InputLaws
 pub mod JoinLaws
 pub mod FreshInput
+pub mod FindLaws
+pub mod FindInput

@@ -87,13 +87,17 @@ rows₀ = replicate 12288 0
 abbrev pub text₀ : List ℕ
 text₀ = replicate 12600 0
 
--- they are room enough: what reading promises for the call it promises for the answer to its pages
+-- they are room enough, so that the pages decide
+pub pages-decide : (b ss ns : List ℕ) → Reads.answered rows₀ text₀ b ss ns ≡ readAt true b ss ns
+unfolding readCall
+pages-decide b ss ns =
+    let enough : roomy (rowsLent (length rows₀)) (length text₀) ≡ true = ap (λ (n : ℕ). roomy (rowsLent n) (length text₀)) (length-replicate {A = ℕ} 12288 0) ∙ ap (roomy 256) (length-replicate {A = ℕ} 12600 0) in
+    ap (λ (x : Bool). readAt x b ss ns) enough
+
+-- what reading promises for the call it promises for the answer to its pages
 pub read-here : (b ss ns rows text : List ℕ) (r : Reading) (a : Paper.Answer) → a ≡ readAt true b ss ns
     → Reads.Promised (Reads.answered rows₀ text₀ b ss ns) rows₀ text₀ r rows text → Reads.Promised a rows₀ text₀ r rows text
-unfolding readCall
-read-here b ss ns rows text r a e R =
-    let enough : roomy (rowsLent (length rows₀)) (length text₀) ≡ true = ap (λ (n : ℕ). roomy (rowsLent n) (length text₀)) (length-replicate {A = ℕ} 12288 0) ∙ ap (roomy 256) (length-replicate {A = ℕ} 12600 0) in
-    subst (λ (x : Paper.Answer). Reads.Promised x rows₀ text₀ r rows text) (ap (λ (x : Bool). readAt x b ss ns) enough ∙ sym e) R
+read-here b ss ns rows text r a e R = subst (λ (x : Paper.Answer). Reads.Promised x rows₀ text₀ r rows text) (pages-decide b ss ns ∙ sym e) R
 
 -- with room enough, the call is answered as reading its pages
 pub list-call : (out b ss ns : List ℕ) → 25200 ≤ length out → answered out b ss ns ≡ readAt true b ss ns

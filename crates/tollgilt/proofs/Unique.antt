@@ -1,4 +1,4 @@
--- Unique: the promises leave no second result: answer, length and room are determined by the call and by the room as lent.
+-- Unique: the promises leave no second result: answer, length or number of rows, and room or list are determined by the call and by what was lent.
 -- Assumes nothing.
 use mathlib.Core.Path.{_≡_, refl, ap, sym, _∙_}
 use mathlib.Core.List.{List}
@@ -10,13 +10,16 @@ use Rattle.reader.specs.declared.answer.Answer.{Answer}
 use Rattle.reader.proofs.AnswerLaws.{told-once}
 use Rattle.tollgilt.specs.Promise.{Promised, Handed}
 use Rattle.tollgilt.specs.Fresh as Fresh
+use Rattle.tollgilt.specs.Find as Find
 use Rattle.tollgilt.specs.declared.list.Listed.{Listed}
+use Rattle.tollgilt.specs.declared.find.Found.{Found}
 use Rattle.tollgilt.specs.Printed as Printing
 use Rattle.tollgilt.specs.Printed.{numbersOf, lengthOf, Prints}
 use Rattle.tollgilt.specs.declared.fresh.Fresh as Pages
 use Rattle.tollgilt.specs.declared.input.Printed.{Printed}
 use Rattle.tollgilt.specs.declared.input.Printed.the-variants.{Bytes, NoRoom}
 use Rattle.tollgilt.proofs.ListLaws.{result}
+use Rattle.tollgilt.proofs.FindLaws as Finding
 
 same-result : (r₁ r₂ : Listed) → r₁ .answer ≡ r₂ .answer → r₁ .length ≡ r₂ .length → r₁ ≡ r₂
 same-result r₁ r₂ a n = ap (λ (x : Answer). result x (r₁ .length)) a ∙ ap (result (r₂ .answer)) n
@@ -40,6 +43,19 @@ pub fresh-handed-once : (a : Fresh.Answer) (out : List ℕ) (r₁ r₂ : ℕ) (o
     → (r₁ ≡ r₂) × (out₁ ≡ out₂) × (told₁ ≡ told₂)
 fresh-handed-once a out r₁ r₂ out₁ out₂ told₁ told₂ p q = (p .number-is ∙ sym (q .number-is), p .room-is ∙ sym (q .room-is), p .told-is ∙ sym (q .told-is))
 
+same-found : (r₁ r₂ : Found) → r₁ .answer ≡ r₂ .answer → r₁ .rows ≡ r₂ .rows → r₁ ≡ r₂
+same-found r₁ r₂ a n = ap (λ (x : Answer). Finding.result x (r₁ .rows)) a ∙ ap (Finding.result (r₂ .answer)) n
+
+-- `find_pages`
+pub find-once : (a : Paper.Answer) (n : ℕ) (list : List ℕ) (r₁ r₂ : Found) (list₁ list₂ : List ℕ) → Find.Promised a n list r₁ list₁ → Find.Promised a n list r₂ list₂ → (r₁ ≡ r₂) × (list₁ ≡ list₂)
+find-once a n list r₁ r₂ list₁ list₂ p q =
+    (same-found r₁ r₂ (told-once a (r₁ .answer) (r₂ .answer) (p .answer-is) (q .answer-is)) (p .rows-are ∙ sym (q .rows-are)), p .list-is ∙ sym (q .list-is))
+
+-- `tollgilt_find`
+pub find-handed-once : (a : Paper.Answer) (n : ℕ) (list : List ℕ) (r₁ r₂ : ℕ) (list₁ list₂ told₁ told₂ : List ℕ) → Find.Handed a n list r₁ list₁ told₁ → Find.Handed a n list r₂ list₂ told₂
+    → (r₁ ≡ r₂) × (list₁ ≡ list₂) × (told₁ ≡ told₂)
+find-handed-once a n list r₁ r₂ list₁ list₂ told₁ told₂ p q = (p .number-is ∙ sym (q .number-is), p .list-is ∙ sym (q .list-is), p .told-is ∙ sym (q .told-is))
+
 -- an answer is known by its number and its length
 same-printed : (r₁ r₂ : Printed) → numbersOf r₁ ≡ numbersOf r₂ → lengthOf r₁ ≡ lengthOf r₂ → r₁ ≡ r₂
 same-printed (Bytes n) (Bytes m) e f = ap Bytes f
@@ -47,6 +63,6 @@ same-printed (Bytes n) NoRoom e f = let z : _≡_ {A = ℕ} 0 1 = ap (λ (t : Nu
 same-printed NoRoom (Bytes m) e f = let z : _≡_ {A = ℕ} 1 0 = ap (λ (t : Numbers). t .number) e in absurd (omega arith)
 same-printed NoRoom NoRoom e f = refl
 
--- `list_input` and `fresh_input`
+-- `list_input`, `fresh_input` and `find_input`
 pub printed-once : (a : Printing.Answer) (out : List ℕ) (r₁ r₂ : Printed) (out₁ out₂ : List ℕ) → Prints a out r₁ out₁ → Prints a out r₂ out₂ → (r₁ ≡ r₂) × (out₁ ≡ out₂)
 printed-once a out r₁ r₂ out₁ out₂ p q = (same-printed r₁ r₂ (p .answer-is ∙ sym (q .answer-is)) (p .length-is ∙ sym (q .length-is)), p .room-is ∙ sym (q .room-is))

@@ -1,18 +1,25 @@
--- Printed: what the functions behind planlist and planfresh promise for any input (`Prints`): the answer and the final state of the lent room, against what
--- document 01 says is printed.
+-- Printed: what the functions behind planlist, planfresh and planfind promise for any input (`Prints`): the answer and the final state of the lent room, against
+-- what is printed. For planlist document 01 says that, for planfresh and planfind this page.
 -- Assumes nothing.
 use mathlib.Core.Path.{_≡_}
+use mathlib.Core.Bool.{Bool, true, false, _&&_}
 use mathlib.Core.List.{List, [], _∷_, _++_}
-use Prim.Native.Nat.{ℕ, _+_}
-use lib.Dec.{leb}
-use lib.ListN.{length, take}
-use Rattle.paper.specs.Lists.{if}
-use Rattle.paper.specs.Calls.{pageRoom, listingRoom}
+use Prim.Native.Nat.{ℕ, suc, _+_, _*_, _≤_}
+use lib.Dec.{leb, ltb}
+use lib.ListN.{length, take, drop}
+use Rattle.paper.specs.Lists.{bytes, if, every, number}
+use Rattle.paper.specs.Bytes.{isDigit}
+use Rattle.paper.specs.Calls.{rowRoom, pageRoom, listingRoom}
+use Rattle.paper.specs.Reading as Paper
 use Rattle.paper.specs.Reading.{Numbers, numbers, read}
-use Rattle.paper.specs.Listing.{parted, refusalLines, planlist}
+use Rattle.paper.specs.Listing.{Line, line, numeral, print, parted, refusalLines, planlist}
+use Rattle.paper.specs.Index.{holders}
 use Rattle.markup.specs.Laid.{laid}
+use Rattle.listing.specs.Split.{toZero}
 use Rattle.tollgilt.specs.Fresh as Fresh
 use Rattle.tollgilt.specs.Fresh.{pages, afresh}
+use Rattle.tollgilt.specs.declared.input.Question.{Question}
+use Rattle.tollgilt.specs.declared.input.Question.the-variants.{None, Of}
 use Rattle.tollgilt.specs.declared.input.Printed.{Printed}
 use Rattle.tollgilt.specs.declared.input.Printed.the-variants.{Bytes, NoRoom}
 
@@ -37,6 +44,58 @@ freshLines (pages f) = separated f
 unfoldable pub planfresh : List ℕ → List ℕ
 planfresh s = freshLines (afresh (read (parted (take 12609 s))))
 
+-- ---- what planfind prints
+
+-- a line for each of these rows
+abbrev pub rowLines : List ℕ → List Line
+rowLines [] = []
+rowLines (i ∷ is) = line (bytes "row") (numeral i) ∷ rowLines is
+
+-- how many rows hold the number, and which
+unfoldable pub heldLines : List ℕ → List ℕ
+heldLines is = print (line (bytes "held") (numeral (length is)) ∷ rowLines is)
+
+-- the rows that hold the number, or the lines of a refusal
+abbrev pub foundLines : ℕ → Paper.Answer → List ℕ
+foundLines n (Paper.refusal m k i) = refusalLines m k i
+foundLines n (Paper.plan p) = heldLines (holders n (p .rows))
+
+-- what is printed for a number and for pages that are parted as planlist's
+unfoldable pub foundIn : ℕ → List ℕ → List ℕ
+foundIn n s = foundLines n (read (parted (take 12609 s)))
+
+-- a package number is asked for in one to eight digits; it may begin with zeros
+abbrev pub isAsked : List ℕ → Bool
+isAsked w = every isDigit w && (leb 1 (length w) && leb (length w) 8)
+
+-- the input asks for a number: it has a zero byte, and a number before the first one
+abbrev pub asks : List ℕ → Bool
+asks s = ltb (toZero s) (length s) && isAsked (take (toZero s) s)
+
+-- the number that it asks for
+abbrev pub numberAsked : List ℕ → ℕ
+numberAsked s = number 0 (take (toZero s) s)
+
+-- what stands behind the number and its zero byte
+abbrev pub behindNumber : List ℕ → List ℕ
+behindNumber s = drop (suc (toZero s)) s
+
+-- the input asks for the number n, and its pages begin at that place
+pub record AsksFor (s : List ℕ) (n at : ℕ) : Type 0 where
+  pub asks-one : asks s ≡ true
+  pub number-is : n ≡ numberAsked s
+  pub pages-are : drop at s ≡ behindNumber s
+  pub inside : at ≤ length s
+
+-- what the input asks for is told so
+abbrev pub Asks : List ℕ → Question → Type 0
+Asks s None = asks s ≡ false
+Asks s (Of n at) = AsksFor s n at
+
+-- what planfind prints: an input that asks for no number is refusal 1, before any page is looked at
+unfoldable pub planfind : List ℕ → List ℕ
+planfind s = if (asks s) (foundIn (numberAsked s) (behindNumber s)) (refusalLines 1 0 0)
+
 -- ---- document 01's answer
 
 -- the number, page and place of a refusal; or the bytes that are printed, be they a plan's or the lines of a refusal
@@ -55,6 +114,14 @@ separatedRoom = pageRoom + 8
 -- what planfresh prints for its input; less room is refusal 1
 unfoldable pub freshAnswer : List ℕ → List ℕ → Answer
 freshAnswer out input = if (leb separatedRoom (length out)) (prints (planfresh input)) (refusal 1 0 0)
+
+-- room for the line `held=256`, and for 256 lines like `row=256`
+abbrev pub foundRoom : ℕ
+foundRoom = 9 + 8 * rowRoom
+
+-- what planfind prints for its input; less room is refusal 1
+unfoldable pub findAnswer : List ℕ → List ℕ → Answer
+findAnswer out input = if (leb foundRoom (length out)) (prints (planfind input)) (refusal 1 0 0)
 
 -- ---- the promise
 

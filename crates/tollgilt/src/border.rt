@@ -1,6 +1,8 @@
 // Border: the functions that programs in C and Rust call. Only numbers and byte ranges cross it; a slice crosses as a pointer and a length.
+ghost use Rattle.tollgilt.specs.Find as Find;
 ghost use Rattle.tollgilt.specs.Fresh as Fresh;
 ghost use Rattle.tollgilt.specs.Promise.{Handed, answered};
+use crate::find::find_pages;
 use crate::fresh::fresh_pages;
 use crate::list::list_pages;
 use reader::answer::refusal_number;
@@ -57,4 +59,25 @@ pub extern "C" fn tollgilt_fresh<'a>(
         l[8],
     ];
     fresh.number
+}
+
+// Finds the rows of a call's plan that hold a package number, as `find_pages` does. Returns the number of the refusal, 0 for a plan. Tells how many rows hold the
+// number, and the page and the place of the refusal: the rows are 0 for a refusal, page and place are 0 for a plan.
+#[no_mangle]
+pub extern "C" fn tollgilt_find<'a>(
+    buffer: &'a [u8],
+    starts: &'a [usize],
+    lens: &'a [usize],
+    number: u32,
+    list: &mut [u32],
+    told: &mut [u32; 3],
+) -> u32
+    ensures { λ r. ⌜ Find.Handed (Find.answered (now (list .entry)) (now (buffer .entry)) (now (starts .entry)) (now (lens .entry))) number (now (list .entry)) r (now (list .exit)) (now (told .exit)) ⌝ }
+{
+    let found = find_pages(buffer, starts, lens, number, list);
+    let answer = found.answer;
+    let page = refusal_page(answer);
+    let place = refusal_place(answer);
+    *told = [found.rows, page, place];
+    refusal_number(answer)
 }

@@ -1,17 +1,26 @@
-// Input: what planlist and planfresh print for their input.
+// Input: what planlist, planfresh and planfind print for their input.
 ghost use mathlib.Core.Path.{_≡_};
 ghost use mathlib.Core.Bool.{true};
+ghost use mathlib.Core.List.{_∷_, []};
 ghost use Prim.Native.Nat.{_+_, _≤_};
 ghost use lib.ListN.{length, take};
 ghost use Rattle.paper.specs.Calls.{readAt};
-ghost use Rattle.paper.specs.Listing.{parted};
+ghost use Rattle.paper.specs.Lists.{bytes};
+ghost use Rattle.paper.specs.Listing.{line, numeral, print, parted};
 ghost use Rattle.paper.specs.Reading.{read};
 ghost use Rattle.markup.specs.Laid.{laid};
+ghost use Rattle.listing.specs.Written.{Wrote};
 ghost use Rattle.tollgilt.specs.Fresh.{bytesTold, pagesIn};
-ghost use Rattle.tollgilt.specs.Printed.{separated, listAnswer, freshAnswer, lengthOf, Prints};
+ghost use Rattle.tollgilt.specs.Printed.{separated, heldLines, foundIn, Asks, listAnswer, freshAnswer, findAnswer, lengthOf, Prints};
+use crate::find::find_pages;
 use crate::fresh::Fresh;
 use crate::fresh::fresh_pages;
 use crate::list::list_pages;
+use fields::numbers::shown;
+use fields::sets::DIGIT;
+use fields::sets::all_in;
+use listing::lines::count_line;
+use listing::pages::next_page;
 use listing::pages::split_pages;
 use listing::refusals::list_refusal;
 use markup::values::lay;
@@ -26,6 +35,12 @@ pub const INPUT: usize = 12609;
 
 // The room for nine full pages and the zero bytes between them.
 pub const SEPARATED: usize = Plan::PAGES + 8;
+
+// The most bytes of an input that count where it begins with a package number: eight digits and a zero byte more.
+pub const ASKING: usize = 9 + INPUT;
+
+// The room for the line `held=256`, and for 256 lines like `row=256`.
+pub const FOUND: usize = 9 + 8 * Plan::ROWS;
 
 // What is printed for an input.
 pub enum Printed {
@@ -144,4 +159,101 @@ pub fn fresh_input(input: &[u8], out: &mut [u8]) -> Printed
     }
     let length = list_refusal(number, fresh.page, fresh.place, out);
     Printed::Bytes(length)
+}
+
+// What an input asks for.
+pub enum Question {
+    // No number: there is no zero byte, or not one to eight digits before the first.
+    None,
+    // That package number; the pages begin at the place.
+    Of { number: u32, pages: usize },
+}
+
+// The package number that an input asks for: one to eight digits before its first zero byte.
+fn asked_for(input: &[u8]) -> Question
+    ensures { λ r. ⌜ Asks (now (input .entry)) r ⌝ }
+{
+    let end = next_page(input, 0);
+    if end >= input.len() {
+        return Question::None;
+    }
+    if end < 1 {
+        return Question::None;
+    }
+    if end > 8 {
+        return Question::None;
+    }
+    if !all_in(&input[..end], 0, DIGIT) {
+        return Question::None;
+    }
+    Question::Of {
+        number: shown(input, 0, end),
+        pages: end + 1,
+    }
+}
+
+// Writes the line of a row that holds the number, and returns the place behind it.
+fn row_line(out: &mut [u8], at: usize, row: u32) -> usize
+    requires { ⌜ at + length (print (line (bytes "row") (numeral row) ∷ [])) ≤ length (now out) ⌝ }
+    ensures { λ r. ⌜ Wrote (now (out .entry)) (now (out .exit)) at r (print (line (bytes "row") (numeral row) ∷ [])) ⌝ }
+{
+    count_line(out, at, b"row", row)
+}
+
+// Prints how many rows hold a number, and the line of each, into `out`: the first `count` of the list. Returns how many bytes that is. All other bytes stay.
+fn held_lines(list: &[u32], count: u32, out: &mut [u8]) -> usize
+    requires { ⌜ (count ≤ length (now list)) × (length (heldLines (take count (now list))) ≤ length (now out)) ⌝ }
+    ensures { λ r. ⌜ (r ≡ length (heldLines (take count (now (list .entry))))) × (now (out .exit) ≡ laid (now (out .entry)) 0 (heldLines (take count (now (list .entry))))) ⌝ }
+{
+    let mut a = count_line(out, 0, b"held", count);
+    let n = count as usize;
+    let mut i = 0;
+    while i < n {
+        a = row_line(out, a, list[i]);
+        i += 1;
+    }
+    a
+}
+
+// Prints the rows that hold a number into `out`, for pages that are parted as planlist's, or the three lines of their refusal. Returns how many bytes that is.
+// All other bytes stay.
+fn found_in(number: u32, input: &[u8], out: &mut [u8]) -> usize
+    requires { ⌜ 2057 ≤ length (now out) ⌝ }
+    ensures { λ r. ⌜ (r ≡ length (foundIn number (now (input .entry)))) × (now (out .exit) ≡ laid (now (out .entry)) 0 (foundIn number (now (input .entry)))) ⌝ }
+{
+    let parts = split(input);
+    let k = parts.pages;
+    let starts = parts.starts;
+    let lens = parts.lens;
+    let mut list = [0u32; Plan::ROWS];
+    let found = find_pages(input, &starts[..k], &lens[..k], number, &mut list);
+    let answer = found.answer;
+    let refusal = refusal_number(answer);
+    if refusal == 0 {
+        let count = found.rows;
+        return held_lines(&list, count, out);
+    }
+    list_refusal(refusal, refusal_page(answer), refusal_place(answer), out)
+}
+
+// What planfind prints for its input: how many rows hold the package number that the input asks for, and which, or the three lines of a refusal. It is laid at the
+// beginning of `out`. The input is the number, a zero byte, and pages as planlist takes them; one that asks for no number is refusal 1. A room of less than 2,057
+// bytes is refusal 1, and stays as it was.
+pub fn find_input(input: &[u8], out: &mut [u8]) -> Printed
+    ensures { λ r. ⌜ Prints (findAnswer (now (out .entry)) (now (input .entry))) (now (out .entry)) r (now (out .exit)) ⌝ }
+{
+    if out.len() < FOUND {
+        return Printed::NoRoom;
+    }
+    let asked = asked_for(input);
+    match asked {
+        Question::None => {
+            let length = list_refusal(1, 0, 0, out);
+            Printed::Bytes(length)
+        }
+        Question::Of { number, pages } => {
+            let length = found_in(number, &input[pages..], out);
+            Printed::Bytes(length)
+        }
+    }
 }
