@@ -1,15 +1,18 @@
 #!/usr/bin/env python3
 """Chooses the vectors that the repository carries, and writes them in a form that can be read.
 
-Usage: make.py BASE.TSV REQUEST-01.TSV SHEETS.TSV
+Usage: make.py BASE.TSV REQUEST-01.TSV REQUEST-02.TSV SHEETS.TSV INDEX.TSV
 
-Both files have one case a line: kind, pages, the output of planlist, and the fresh pages or a refusal, which is
-refused:number:page:place in the base and !number.page.place in the request; bytes in hexadecimal digits, pages with
+The first two have one case a line: kind, pages, the output of planlist, and the fresh pages or a refusal, which is
+refused:number:page:place in the base and !number.page.place in a request; bytes in hexadecimal digits, pages with
 commas between them, "-" for an empty page. The base is document 01 alone, the request has what it changes and, as kind
 "base", more of document 01. The later file rules: a case of the base that the request may answer otherwise is left out.
+Those of request 2 are: kind, pages, the index as built and the index asked with (pairs number:row with commas between
+them, "-" for none), a number, k, what is answered of the number, and of its k-th row.
 
-The vectors have the same columns and the base's refusals, with printable ASCII bytes as themselves and every other
-byte, and % and comma, as %XX; a page without bytes is the empty text.
+The vectors, SHEETS.TSV of the first two and INDEX.TSV of the third, have the same columns and the base's refusals, with
+printable ASCII bytes of a page as themselves and every other byte, and % and comma, as %XX; a page without bytes is the
+empty text.
 """
 
 import html
@@ -19,13 +22,14 @@ import sys
 # How many cases are taken of each file, and below how many bytes a case comes before the larger ones.
 BASE_SHARE = (1600, 1100)
 REQUEST_SHARE = (400, 0)
+INDEX_SHARE = (400, 0)
 
 
 def cases_of(path):
     """The cases of a file, with refusals as the base has them."""
     with open(path, encoding="ascii") as lines:
         cases = [line.rstrip("\n").split("\t") for line in lines if not line.startswith("#")]
-    return [(*case, re.sub(r"^!(\d+)\.(\d+)\.(\d+)$", r"refused:\1:\2:\3", fresh)) for *case, fresh in cases]
+    return [[re.sub(r"^!(\d+)\.(\d+)\.(\d+)$", r"refused:\1:\2:\3", column) for column in case] for case in cases]
 
 
 def overruled(case):
@@ -46,15 +50,23 @@ def readable(digits):
     return "".join(shown)
 
 
+def readable_pages(pages):
+    """Pages in readable form."""
+    return ",".join(readable(page) for page in pages.split(","))
+
+
 def line_of(case):
-    """One case as a line of the vectors."""
-    kind, pages, listing, fresh = case
+    """One case as a line of the vectors. One of request 2 has more columns, and all but its pages can be read."""
+    kind, pages, *rest = case
+    if len(rest) > 2:
+        return "\t".join([kind, readable_pages(pages), *rest])
+    listing, fresh = rest
     if not fresh.startswith("refused:"):
-        fresh = ",".join(readable(page) for page in fresh.split(","))
-    return "\t".join([kind, ",".join(readable(page) for page in pages.split(",")), readable(listing), fresh])
+        fresh = readable_pages(fresh)
+    return "\t".join([kind, readable_pages(pages), readable(listing), fresh])
 
 
-def answer(case):
+def sheets_answer(case):
     """The number of the refusal, or the number of fresh pages for an accepted case."""
     fresh = case[3]
     if fresh.startswith("refused:"):
@@ -62,7 +74,13 @@ def answer(case):
     return "fresh %d" % (fresh.count(",") + 1)
 
 
-def chosen(cases, wanted, small):
+def index_answer(case):
+    """A refusal, absent, none, or a row; and whether more than one row holds the number."""
+    first, row = case[6:]
+    return (re.sub(r"^\d+$", "row", row), "," in first and not first.endswith(",1"))
+
+
+def chosen(cases, answer, wanted, small):
     """The lines of the chosen cases: two of each kind with each answer, then the small ones, then larger ones, each
     from all kinds and answers in turn."""
     groups = {}
@@ -76,15 +94,22 @@ def chosen(cases, wanted, small):
     return [lines[place] for place in sorted(order[:wanted])]
 
 
-def main():
-    """Reads both files and writes the vectors."""
-    base, request, vectors = sys.argv[1:]
-    lines = chosen([case for case in cases_of(base) if not overruled(case)], *BASE_SHARE)
-    lines += chosen([case for case in cases_of(request) if case[0] != "base"], *REQUEST_SHARE)
-    with open(vectors, "w", encoding="ascii") as out:
-        out.write("# kind\tpages, comma between\tplanlist's output\tfresh pages, comma between, ")
-        out.write("or refused:number:page:place; %XX is a byte in hexadecimal digits\n")
+def put(path, columns, lines):
+    """Writes a file of vectors with a first line that names its columns."""
+    with open(path, "w", encoding="ascii") as out:
+        out.write("# kind\tpages, comma between\t" + columns + "; %XX is a byte in hexadecimal digits\n")
         out.writelines(line + "\n" for line in lines)
+
+
+def main():
+    """Reads the three files and writes the vectors."""
+    base, birthdays, index, sheets_vectors, index_vectors = sys.argv[1:]
+    sheets = chosen([case for case in cases_of(base) if not overruled(case)], sheets_answer, *BASE_SHARE)
+    sheets += chosen([case for case in cases_of(birthdays) if case[0] != "base"], sheets_answer, *REQUEST_SHARE)
+    put(sheets_vectors, "planlist's output\tfresh pages, comma between, or refused:number:page:place", sheets)
+    columns = "index as built, number:row, comma between\tindex asked with\tnumber\tk\tfirst row,count or absent"
+    columns += "\tk-th row, absent or none, or refused:number:page:place"
+    put(index_vectors, columns, chosen(cases_of(index), index_answer, *INDEX_SHARE))
 
 
 main()

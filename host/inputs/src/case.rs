@@ -170,7 +170,7 @@ fn scanned(sheets: &[Element], manner: Manner, random: &mut Random) -> Vec<Vec<u
 }
 
 /// Some undamaged pages of the plan.
-fn handed_in(plan: &Plan, random: &mut Random) -> Vec<Vec<u8>> {
+pub(crate) fn handed_in(plan: &Plan, random: &mut Random) -> Vec<Vec<u8>> {
     let manner = Manner::random(random);
     let sheets = sheets(plan, manner, random);
     scanned(&sheets, manner, random)

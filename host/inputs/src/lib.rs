@@ -10,6 +10,7 @@ pub mod disguise;
 pub mod fields;
 pub mod fill;
 pub mod garbage;
+pub mod index;
 pub mod numbers;
 pub mod plan;
 pub mod random;
@@ -28,7 +29,7 @@ pub use references::raw_value;
 pub use sequence::{sequence, Step};
 pub use values::value_near;
 
-/// The pages with one zero byte between them, as the programs planlist and planfresh read them.
+/// The pages with one zero byte between them, as the programs planlist and planfresh read them, and planfind behind its number.
 pub fn joined(pages: &[Vec<u8>]) -> Vec<u8> {
     pages.join(&0)
 }

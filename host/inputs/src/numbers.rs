@@ -523,7 +523,7 @@ fn text_cut(numbers: &mut Numbers, random: &mut Random) {
 }
 
 /// A number of any size, small ones often.
-fn any_number(random: &mut Random) -> u32 {
+pub(crate) fn any_number(random: &mut Random) -> u32 {
     match random.below(4) {
         0 => 0,
         1 => random.below(6) as u32,

@@ -1,5 +1,7 @@
 //! The laws that the second program keeps for every input. Each law is one function that says what it found wrong.
 
+mod index;
+
 use inputs::{joined, meant_listing, meant_refusal, Case, Random};
 use second::{
     cut_exists, listing, planlist, read, refusal_lines, write, Answer, Collector, Plan, Refusal,
@@ -36,6 +38,8 @@ pub struct Tally {
     pub answers: BTreeMap<u8, usize>,
     /// Undamaged cases, and how many of them were read.
     pub undamaged: (usize, usize),
+    /// What was answered of an index, and how often.
+    pub index: index::Answers,
     /// Each seed that failed, with what went wrong.
     pub failures: Vec<(u64, String)>,
     /// Cases that kept every law.
@@ -49,7 +53,10 @@ pub fn run(first: u64, count: u64) -> Tally {
     for seed in first..first + count {
         let case = inputs::case(seed);
         *tally.kinds.entry(case.what).or_default() += 1;
-        let checked = catch_unwind(AssertUnwindSafe(|| check(&case, &earlier)));
+        let checked = catch_unwind(AssertUnwindSafe(|| {
+            index::check(seed, &mut tally.index)?;
+            check(&case, &earlier)
+        }));
         match checked.unwrap_or_else(|_| Err("no answer but a panic".to_string())) {
             Ok(answer) => {
                 note(&mut tally, &case, &answer);

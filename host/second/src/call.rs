@@ -1,12 +1,13 @@
 //! The calls with lent rooms: pages as ranges of one buffer, and refusal 1.
 
 use crate::collector::{Answer, Collector};
+use crate::index::{find, index_of, Pair};
 use crate::join::read;
 use crate::layout::{lay, write_numbers, HeadNumbers, Numbers, RowNumbers};
 use crate::listing::listing;
 use crate::plan::Refusal;
 use crate::writer::write;
-use crate::{LISTING_ROOM, MOST_PAGES, MOST_ROWS, PAGE_ROOM, TEXT_ROOM};
+use crate::{LISTING_ROOM, MOST_PAGES, MOST_PAIRS, MOST_ROWS, PAGE_ROOM, TEXT_ROOM};
 
 /// Refusal 1, which has neither page nor place.
 fn one() -> Refusal {
@@ -46,6 +47,50 @@ pub fn read_call(
         return Err(one());
     }
     read(&pages).map(|plan| lay(&plan))
+}
+
+/// A plan laid out, with its index, into room for so many pairs beside the reader's. Too
+/// little room for pairs is told with the reader's own room, before any page.
+fn indexed(
+    pair_room: usize,
+    reading: impl FnOnce() -> Result<(Numbers, Vec<u8>), Refusal>,
+) -> Result<(Numbers, Vec<u8>, Vec<Pair>), Refusal> {
+    if pair_room < MOST_PAIRS {
+        return Err(one());
+    }
+    let (numbers, text) = reading()?;
+    let index = index_of(&numbers.rows);
+    Ok((numbers, text, index))
+}
+
+/// Reads pages as [`read_call`] does, and builds the index with the plan.
+pub fn read_indexed_call(
+    buffer: &[u8],
+    starts: &[usize],
+    lengths: &[usize],
+    row_room: usize,
+    text_room: usize,
+    pair_room: usize,
+) -> Result<(Numbers, Vec<u8>, Vec<Pair>), Refusal> {
+    indexed(pair_room, || {
+        read_call(buffer, starts, lengths, row_room, text_room)
+    })
+}
+
+/// Finds the rows that hold a package number in the plan of pages, into a lent list with
+/// room for so many row numbers.
+pub fn find_call(
+    buffer: &[u8],
+    starts: &[usize],
+    lengths: &[usize],
+    number: u32,
+    list_room: usize,
+) -> Result<Vec<usize>, Refusal> {
+    let pages = pages_of(buffer, starts, lengths)?;
+    if list_room < MOST_ROWS {
+        return Err(one());
+    }
+    find(&pages, number)
 }
 
 /// Lists pages into lent room.
@@ -115,6 +160,16 @@ pub fn collector_call(
         return Err(one());
     }
     collector.read().map(|plan| lay(&plan))
+}
+
+/// Reads a collector as [`collector_call`] does, and builds the index with the plan.
+pub fn collector_indexed_call(
+    collector: &Collector,
+    row_room: usize,
+    text_room: usize,
+    pair_room: usize,
+) -> Result<(Numbers, Vec<u8>, Vec<Pair>), Refusal> {
+    indexed(pair_room, || collector_call(collector, row_room, text_room))
 }
 
 /// Pages one behind the other, and their lengths.

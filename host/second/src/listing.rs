@@ -1,6 +1,7 @@
-//! The listing of a plan, the three lines of a refusal, and the programs planlist and
-//! planfresh.
+//! The listing of a plan, the three lines of a refusal, and the programs planlist,
+//! planfresh and planfind.
 
+use crate::index::find;
 use crate::join::read;
 use crate::plan::{present, Plan, Refusal};
 use crate::table::{entry, Element, Name};
@@ -68,6 +69,36 @@ pub fn planlist(input: &[u8]) -> Vec<u8> {
 pub fn planfresh(input: &[u8]) -> Vec<u8> {
     match read(&split(input)).and_then(|plan| write(&plan)) {
         Ok(pages) => pages.join(&0),
+        Err(refusal) => refusal_lines(&refusal),
+    }
+}
+
+/// The package number before the first zero byte of planfind's input, one to eight digits,
+/// and the bytes behind that zero byte; nothing if the input does not begin so.
+fn number_and_pages(input: &[u8]) -> Option<(u32, &[u8])> {
+    let zero = input.iter().position(|&byte| byte == 0)?;
+    let digits = &input[..zero];
+    let right = (1..=8).contains(&digits.len()) && digits.iter().all(u8::is_ascii_digit);
+    let digit = |number: u32, digit: &u8| number * 10 + u32::from(digit - b'0');
+    right.then(|| (digits.iter().fold(0, digit), &input[zero + 1..]))
+}
+
+/// What planfind prints for this input, a package number, a zero byte, and then pages as
+/// planlist takes them: how many rows hold the number, and each of them; or the three lines
+/// of the refusal, which is 1 for an input that does not begin with a number.
+pub fn planfind(input: &[u8]) -> Vec<u8> {
+    let Some((number, pages)) = number_and_pages(input) else {
+        return refusal_lines(&Refusal::new(1, 0, 0));
+    };
+    match find(&split(pages), number) {
+        Ok(rows) => {
+            let mut lines = Vec::new();
+            line(&mut lines, "held", rows.len().to_string().as_bytes());
+            for row in rows {
+                line(&mut lines, "row", row.to_string().as_bytes());
+            }
+            lines
+        }
         Err(refusal) => refusal_lines(&refusal),
     }
 }

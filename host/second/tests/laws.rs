@@ -12,6 +12,23 @@ const SEEDS: u64 = 1_500;
 /// Seeds over which each answer must have its share.
 const SHARED_SEEDS: u64 = 8_000;
 
+/// What may be answered of an index.
+const INDEX_ANSWERS: [&str; 13] = [
+    "absent",
+    "building 1",
+    "built",
+    "found in sheets",
+    "none",
+    "not found in sheets",
+    "planfind finds",
+    "planfind refuses pages",
+    "planfind refuses the number",
+    "question 1",
+    "question 20",
+    "row",
+    "sheets refused",
+];
+
 /// The number of the answer to a set of pages: 0 for read and written.
 fn answer(pages: &[Vec<u8>]) -> u8 {
     let slices: Vec<&[u8]> = pages.iter().map(Vec::as_slice).collect();
@@ -36,6 +53,12 @@ fn every_law_holds_over_the_first_seeds() {
         sorted_kinds()
     );
     assert_eq!(tally.answers.values().sum::<usize>() as u64, SEEDS);
+    assert_eq!(
+        tally.index.keys().copied().collect::<Vec<_>>(),
+        INDEX_ANSWERS
+    );
+    let share = |count: &usize| *count as u64 > SEEDS / 20;
+    assert!(tally.index.values().all(share), "{:?}", tally.index);
 }
 
 fn sorted_kinds() -> Vec<&'static str> {

@@ -1,7 +1,8 @@
-//! The vectors that the repository carries: every listing and every fresh page as written there.
+//! The vectors that the repository carries: every listing, every fresh page and every answer of an index as written there.
 
-use inputs::vectors::{carried, named, Vector};
-use second::{planlist, read, write, Refusal};
+use inputs::vectors::{carried, carried_index, named, named_index, IndexVector, Kth, Vector};
+use second::index::{Held, Lent};
+use second::{find, index_of, lay, planfind, planlist, read, write, Pair, Refusal};
 use std::collections::BTreeSet;
 
 /// The kinds of case that the vectors have.
@@ -23,6 +24,11 @@ const KINDS: [&str; 15] = [
     "writer",
 ];
 
+/// The kinds of case that the vectors of an index have: what was done to the index asked with.
+const INDEX_KINDS: [&str; 10] = [
+    "empty", "foreign", "last", "missing", "number", "right", "row", "swapped", "twice", "zero",
+];
+
 /// What is wrong with the answers to one case, if anything is.
 fn faults(vector: &Vector) -> Vec<String> {
     let mut faults = Vec::new();
@@ -35,9 +41,7 @@ fn faults(vector: &Vector) -> Vec<String> {
         ));
     }
     let pages: Vec<&[u8]> = vector.pages.iter().map(Vec::as_slice).collect();
-    let fresh = read(&pages)
-        .and_then(|plan| write(&plan))
-        .map_err(|refusal: Refusal| [refusal.number.into(), refusal.page, refusal.place]);
+    let fresh = read(&pages).and_then(|plan| write(&plan)).map_err(numbers);
     if fresh != vector.fresh {
         let (given, right) = (shown(&fresh), shown(&vector.fresh));
         faults.push(format!(
@@ -60,8 +64,69 @@ fn shown(fresh: &Result<Vec<Vec<u8>>, [usize; 3]>) -> String {
     }
 }
 
-fn check(vectors: &[Vector]) {
-    let faults: Vec<String> = vectors.iter().flat_map(faults).collect();
+/// A refusal as the vectors have it.
+fn numbers(refusal: Refusal) -> [usize; 3] {
+    [refusal.number.into(), refusal.page, refusal.place]
+}
+
+/// What is wrong with the answers to one case of an index, if anything is.
+fn index_faults(vector: &IndexVector) -> Vec<String> {
+    let place = format!("line {} ({})", vector.line, vector.kind);
+    let pages: Vec<&[u8]> = vector.pages.iter().map(Vec::as_slice).collect();
+    let rows = match read(&pages) {
+        Ok(plan) => lay(&plan).0.rows,
+        Err(refusal) => return vec![format!("{place}: refused with {refusal:?}")],
+    };
+    let pair = |[number, row]: &[u32; 2]| Pair {
+        number: *number,
+        row: *row as usize,
+    };
+    let built: Vec<Pair> = vector.built.iter().map(pair).collect();
+    let asked: Vec<Pair> = vector.asked.iter().map(pair).collect();
+    let lent = Lent {
+        rows: &rows,
+        row_count: rows.len(),
+        pairs: &asked,
+        index_length: asked.len(),
+    };
+    let right = vector.held.map(|held| {
+        held.map(|[first, count]| Held {
+            first: first as usize,
+            count: count as usize,
+        })
+    });
+    let held = lent.held(vector.number).map_err(numbers);
+    let kth = lent.kth(vector.number, vector.k as usize).map_err(numbers);
+    let kth = kth.map(|kth| match kth {
+        second::index::Kth::Row(row) => Kth::Row(row as u32),
+        second::index::Kth::None => Kth::None,
+        second::index::Kth::Absent => Kth::Absent,
+    });
+    let on_plan = built.iter().filter(|pair| pair.number == vector.number);
+    let found: Vec<usize> = on_plan.map(|pair| pair.row).collect();
+    let lines = found.iter().map(|row| format!("row={row}\n"));
+    let printed = format!("held={}\n{}", found.len(), lines.collect::<String>());
+    let input = [
+        vector.number.to_string().into_bytes(),
+        inputs::joined(&vector.pages),
+    ];
+    let same = [
+        ("the index", index_of(&rows) == built),
+        ("the first row or the count", held == right),
+        ("the k-th row", kth == vector.kth),
+        ("the rows found", find(&pages, vector.number) == Ok(found)),
+        (
+            "what planfind prints",
+            planfind(&input.join(&0)) == printed.as_bytes(),
+        ),
+    ];
+    let wrong = same.iter().filter(|(_, same)| !same);
+    wrong
+        .map(|(what, _)| format!("{place}: {what} is not as written"))
+        .collect()
+}
+
+fn check(faults: Vec<String>) {
     let first = faults
         .iter()
         .take(5)
@@ -77,7 +142,7 @@ fn check(vectors: &[Vector]) {
 
 #[test]
 fn every_carried_vector_is_answered_as_written() {
-    check(&carried());
+    check(carried().iter().flat_map(faults).collect());
 }
 
 #[test]
@@ -116,8 +181,32 @@ fn carried_birth_dates_are_read_refused_and_told_apart() {
     assert_eq!(answers, [0, 7, 9].into());
 }
 
+#[test]
+fn every_carried_vector_of_an_index_is_answered_as_written() {
+    check(carried_index().iter().flat_map(index_faults).collect());
+}
+
+#[test]
+fn carried_vectors_of_an_index_have_every_kind_and_every_answer() {
+    let vectors = carried_index();
+    assert_eq!(vectors.len(), 400);
+    let kinds: BTreeSet<&str> = vectors.iter().map(|vector| vector.kind.as_str()).collect();
+    assert_eq!(kinds, INDEX_KINDS.into());
+    let count = |answer: fn(&IndexVector) -> bool| vectors.iter().filter(|it| answer(it)).count();
+    let counts = [
+        count(|vector| vector.kth == Err([20, 0, 0])),
+        count(|vector| vector.kth == Ok(Kth::Absent)),
+        count(|vector| vector.kth == Ok(Kth::None)),
+        count(|vector| matches!(vector.kth, Ok(Kth::Row(_)))),
+        count(|vector| matches!(vector.kth, Ok(Kth::Row(_))) && vector.k > 1),
+        count(|vector| vector.pages.len() > 1),
+    ];
+    assert!(counts.iter().all(|count| *count >= 5), "{counts:?}");
+}
+
 /// The environment variable TOLLGILT_VECTORS may name a file of many more vectors.
 #[test]
 fn every_vector_of_the_named_file_is_answered_as_written() {
-    check(&named());
+    check(named().iter().flat_map(faults).collect());
+    check(named_index().iter().flat_map(index_faults).collect());
 }

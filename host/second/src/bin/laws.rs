@@ -27,7 +27,7 @@ fn main() -> ExitCode {
     }
 }
 
-/// Prints the counts by kind and by answer, the first failures, and the sums.
+/// Prints the counts by kind, by answer and by answer of an index, the first failures, and the sums.
 fn print(tally: &Tally) {
     for (kind, count) in &tally.kinds {
         println!("kind {kind}: {count}");
@@ -38,6 +38,9 @@ fn print(tally: &Tally) {
             14 => println!("read, refused by the writer with 14: {count}"),
             _ => println!("refused with {number}: {count}"),
         }
+    }
+    for (what, count) in &tally.index {
+        println!("index, {what}: {count}");
     }
     println!(
         "undamaged: {}, of them read: {}",

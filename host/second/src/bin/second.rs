@@ -1,4 +1,5 @@
-//! The command of the second program: `planlist` lists, `fresh` writes fresh pages.
+//! The command of the second program: `planlist` lists, `fresh` writes fresh pages,
+//! `planfind` finds a package number.
 
 use std::io::{Read, Write};
 
@@ -23,8 +24,10 @@ fn main() -> std::io::Result<()> {
     let answer: fn(&[u8]) -> Vec<u8> = match std::env::args().nth(1).as_deref() {
         Some("planlist") => second::planlist,
         Some("fresh") => fresh,
+        Some("planfind") => second::planfind,
         _ => {
             eprintln!("second planlist | second fresh, with pages on standard input");
+            eprintln!("second planfind, with a package number, a zero byte and pages");
             std::process::exit(2);
         }
     };
