@@ -14,7 +14,11 @@ use reader::answer::refusal_page;
 use reader::answer::refusal_place;
 
 // The collector with these fields.
-fn collector_of<'a>(pages: &'a [u8; 12600], lens: &'a [u16; 9], numbers: &'a [u8; 2]) -> Collector {
+pub fn collector_of<'a>(
+    pages: &'a [u8; 12600],
+    lens: &'a [u16; 9],
+    numbers: &'a [u8; 2],
+) -> Collector {
     let p = *pages;
     let l = *lens;
     Collector {

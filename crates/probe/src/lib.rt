@@ -2,6 +2,7 @@
 // They are no part of the product's border, which is the crate `tollgilt`.
 pub mod cells;
 pub mod collecting;
+pub mod indexing;
 pub mod printing;
 pub mod writing;
 

@@ -1,5 +1,6 @@
-// What the programs planlist and planfresh print for an input, for the tests.
+// What the programs planlist, planfresh and planfind print for an input, for the tests.
 use tollgilt::input::Printed;
+use tollgilt::input::find_input;
 use tollgilt::input::fresh_input;
 use tollgilt::input::list_input;
 
@@ -25,5 +26,12 @@ pub extern "C" fn probe_planlist(input: &[u8], out: &mut [u8], told: &mut [usize
 #[no_mangle]
 pub extern "C" fn probe_planfresh(input: &[u8], out: &mut [u8], told: &mut [usize; 1]) -> u32 {
     let printed = fresh_input(input, out);
+    tell(printed, told)
+}
+
+// What planfind prints for its input, in the same way.
+#[no_mangle]
+pub extern "C" fn probe_planfind(input: &[u8], out: &mut [u8], told: &mut [usize; 1]) -> u32 {
+    let printed = find_input(input, out);
     tell(printed, told)
 }

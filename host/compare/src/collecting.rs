@@ -4,7 +4,7 @@ use inputs::{sequence, Step};
 use second::call::{add_call, collector_call};
 use second::Answer;
 
-use crate::numbers::{head, record, RECORD};
+use crate::numbers::{reading_of, RECORD};
 use crate::Reading;
 
 mod border {
@@ -50,9 +50,9 @@ const ALREADY_HERE: u32 = 20;
 /// A proved collector: its pages, their lengths, the count of pages and the number of the first.
 #[derive(Clone, PartialEq, Eq)]
 pub struct Collector {
-    pages: Box<[u8; 12_600]>,
-    lens: [u16; 9],
-    numbers: [u8; 2],
+    pub(crate) pages: Box<[u8; 12_600]>,
+    pub(crate) lens: [u16; 9],
+    pub(crate) numbers: [u8; 2],
 }
 
 impl Collector {
@@ -221,20 +221,6 @@ fn answer(answer: Answer) -> [u32; 3] {
 
 /// What the second program's collector reads into rooms of these sizes.
 fn reading(collector: &second::Collector, row_room: usize, text_room: usize) -> Reading {
-    let mut expected = Reading {
-        refusal: [0; 3],
-        head: vec![0; 56],
-        rows: vec![u32::from(POISON); row_room * RECORD],
-        text: vec![POISON; text_room],
-    };
-    match collector_call(collector, row_room, text_room) {
-        Err(refusal) => expected.refusal = answer(Answer::Refused(refusal)),
-        Ok((numbers, text)) => {
-            expected.head = head(&numbers);
-            let rows: Vec<u32> = numbers.rows.iter().flat_map(record).collect();
-            expected.rows[..rows.len()].copy_from_slice(&rows);
-            expected.text[..text.len()].copy_from_slice(&text);
-        }
-    }
-    expected
+    let answer = collector_call(collector, row_room, text_room);
+    reading_of(answer, (row_room * RECORD, text_room), POISON)
 }

@@ -2,6 +2,7 @@
 
 pub mod cells;
 pub mod collecting;
+pub mod indexing;
 pub mod numbers;
 pub mod printing;
 pub mod rounds;

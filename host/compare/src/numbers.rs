@@ -2,6 +2,9 @@
 
 use second::layout::{HeadNumbers, Numbers, RowNumbers, Span, HEAD_PARTS, ROW_PARTS, SUBSTANCES};
 use second::table::entry;
+use second::Refusal;
+
+use crate::Reading;
 
 /// The numbers of a row's record.
 pub const RECORD: usize = 48;
@@ -50,6 +53,34 @@ pub fn record(row: &RowNumbers) -> Vec<u32> {
     }
     record.resize(RECORD, 0);
     record
+}
+
+/// What reading into rooms of so many numbers and bytes, which held `poison`, must give for an answer of the second program.
+pub fn reading_of(
+    answer: Result<(Numbers, Vec<u8>), Refusal>,
+    room: (usize, usize),
+    poison: u8,
+) -> Reading {
+    let mut reading = Reading {
+        refusal: [0; 3],
+        head: vec![0; 56],
+        rows: vec![poison.into(); room.0],
+        text: vec![poison; room.1],
+    };
+    match answer {
+        Err(Refusal {
+            number,
+            page,
+            place,
+        }) => reading.refusal = [number.into(), page as u32, place as u32],
+        Ok((numbers, text)) => {
+            let rows: Vec<u32> = numbers.rows.iter().flat_map(record).collect();
+            reading.head = head(&numbers);
+            reading.rows[..rows.len()].copy_from_slice(&rows);
+            reading.text[..text.len()].copy_from_slice(&text);
+        }
+    }
+    reading
 }
 
 /// The head of a patch and 27 spans. No patch above 99 is right, so that one above 255 may stand as 255.

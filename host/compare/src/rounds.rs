@@ -8,8 +8,8 @@ use second::tags::{outermost, Tag};
 use second::value::{read_value, spell};
 use second::PAGE_BYTES;
 
-use crate::numbers::{head, record};
-use crate::{Event, Reading};
+use crate::numbers::reading_of;
+use crate::Event;
 
 /// What stands in a room before a call, and must stand there afterwards wherever nothing was laid.
 const POISON: u8 = 0xA5;
@@ -233,30 +233,7 @@ fn reading(title: &str, pages: &[Vec<u8>], found: &mut Vec<String>) -> u8 {
     let slices: Vec<&[u8]> = pages.iter().map(Vec::as_slice).collect();
     let answer = second::read(&slices);
     let number = answer.as_ref().err().map_or(0, |refusal| refusal.number);
-    let expected = match answer {
-        Err(refusal) => Reading {
-            refusal: [
-                refusal.number.into(),
-                refusal.page as u32,
-                refusal.place as u32,
-            ],
-            head: vec![0; 56],
-            rows: vec![u32::from(POISON); ROOM.0],
-            text: vec![POISON; ROOM.1],
-        },
-        Ok(plan) => {
-            let (numbers, mut text) = second::lay(&plan);
-            text.resize(ROOM.1, POISON);
-            let mut rows: Vec<u32> = numbers.rows.iter().flat_map(record).collect();
-            rows.resize(ROOM.0, POISON.into());
-            Reading {
-                refusal: [0; 3],
-                head: head(&numbers),
-                rows,
-                text,
-            }
-        }
-    };
+    let expected = reading_of(answer.map(|plan| second::lay(&plan)), ROOM, POISON);
     if given != expected {
         found.push(format!(
             "{title}: the set read as one call ({:?} for {:?})",

@@ -1,6 +1,7 @@
-//! What planlist and planfresh print, on the vectors, at the edges of what they look at, and on a bounded number of seeds; the binary `compare` runs more.
+//! What planlist, planfresh and planfind print, on the vectors, at the edges of what they look at, and on a bounded number of seeds; the binary `compare` runs
+//! more.
 
-use compare::printing::{compared, differences, edges};
+use compare::printing::{compared, compared_find, differences, edges, find_edges};
 use inputs::joined;
 use inputs::vectors::{carried, named};
 
@@ -18,10 +19,13 @@ fn the_vectors_are_printed_as_the_second_program_does() {
 
 #[test]
 fn inputs_at_the_edges_are_printed_as_the_second_program_does() {
-    let found: Vec<String> = edges()
+    let mut found: Vec<String> = edges()
         .iter()
         .flat_map(|input| compared("edge", input))
         .collect();
+    for input in find_edges() {
+        found.extend(compared_find("edge", &input));
+    }
     assert_eq!(found, Vec::<String>::new());
 }
 

@@ -3,12 +3,13 @@
 //!   fresh      the plans of generated sets of pages, written fresh
 //!   plans      plans in numbers that were made up, written
 //!   collector  sequences of a collector
+//!   index      indexes of rows and of sheets, built and asked
 //!   cells      cells of plans in numbers
-//!   printed    what planlist and planfresh print
+//!   printed    what planlist, planfresh and planfind print
 
 use std::collections::BTreeMap;
 
-use compare::{cells, collecting, printing, rounds, writing};
+use compare::{cells, collecting, indexing, printing, rounds, writing};
 
 /// What is counted beside the seeds: how often each thing happened.
 type Tally = BTreeMap<String, u64>;
@@ -66,12 +67,13 @@ fn main() {
         Some("fresh") => Some(fresh),
         Some("plans") => Some(plans),
         Some("collector") => Some(collector),
+        Some("index") => Some(indexing::differences),
         Some("cells") => Some(cells),
         Some("printed") => Some(printed),
         Some(_) => None,
     };
     let (Some(first), Some(count), Some(part)) = (number(0), number(1), part) else {
-        eprintln!("usage: compare FIRST COUNT [layers|fresh|plans|collector|cells|printed]");
+        eprintln!("usage: compare FIRST COUNT [layers|fresh|plans|collector|index|cells|printed]");
         std::process::exit(2);
     };
     println!("seeds {first} to {}", first + count - 1);
