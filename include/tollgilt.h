@@ -1,10 +1,11 @@
-/* tollgilt.h: the sheets of a German medication plan (BMP 2.7) joined, listed and written afresh, for C programs. This header is the manual of the
- * library's border.
+/* tollgilt.h: the sheets of a German medication plan (BMP 2.7) joined, listed, written afresh and asked for a package number, for C programs. This header
+ * is the manual of the library's border.
  *
  * A sheet's barcode holds one page: 1 to 1,400 bytes of XML in Latin-1. One to nine pages make a plan. The library joins them by what they say, in
- * whatever order they are handed in, and answers with a listing of the plan or with fresh pages, or with a refusal that names the page and the place.
+ * whatever order they are handed in, and answers with a listing of the plan, with fresh pages or with the rows that hold a package number, or with a refusal
+ * that names the page and the place.
  *
- * Only numbers and byte ranges cross this border. The library has no state, allocates nothing, writes nothing but what is lent to it for writing, and
+ * Only numbers and ranges of bytes and numbers cross this border. The library has no state, allocates nothing, writes nothing but what is lent to it for writing, and
  * calls nothing but the C library's memcpy, memmove, memset, memcmp and bcmp. It never fails in another way than by a refusal.
  *
  * To link it, hand the archive to the compiler behind your own files; it needs no other library. From a new clone to a program that runs, with the Rattle
@@ -31,7 +32,8 @@ enum {
     TOLLGILT_PAGES = 9,            /* the most pages that a call hands in */
     TOLLGILT_PAGE_BYTES = 1400,    /* the most bytes of a page */
     TOLLGILT_LISTING_ROOM = 25200, /* the room that a listing asks for: it is enough for any plan */
-    TOLLGILT_PAGE_ROOM = 12600     /* the room that fresh pages ask for: it is enough for nine full ones */
+    TOLLGILT_PAGE_ROOM = 12600,    /* the room that fresh pages ask for: it is enough for nine full ones */
+    TOLLGILT_ROWS = 256            /* the most rows of a plan, and the numbers that a list of rows asks for */
 };
 
 /* What a call answers: 0, or the number of a refusal. Beside each stands the page and the place that come with it. A page is counted from 1 in the
@@ -124,6 +126,21 @@ uint32_t tollgilt_list(const uint8_t *buffer, size_t size, const size_t *starts,
  * all of out is untouched. The caller answers for the pointers, and a call uses the stack, as for tollgilt_list. */
 uint32_t tollgilt_fresh(const uint8_t *buffer, size_t size, const size_t *starts, size_t starts_count, const size_t *lens, size_t lens_count,
                         uint8_t *out, size_t room, uint32_t told[12]);
+
+/* Finds the rows of a plan that hold a package number (PZN). A row is counted from 1, as in the listing; medication rows alone hold a number. Packages of the
+ * same drug can stand in several rows, and each of them is given.
+ *
+ *   buffer, size, starts, starts_count, lens, lens_count   as for tollgilt_list.
+ *   number       the package number, as a number: 02394428 on a box is 2394428. Any number may be asked for: its check digit is not judged, and 0, or one
+ *                that no row holds, is in no row.
+ *   list, room   the room for the rows: at least TOLLGILT_ROWS numbers, whatever the plan has; less is refused with 1.
+ *   told         three numbers: how many rows hold the number, and the page and the place of a refusal. All three are written by every call.
+ *
+ * Answers 0 and begins list with the rows that hold the number, ascending: told is then { how many, 0, 0 }, with 0 where the number is not on the plan, and
+ * the list behind them is untouched. Or answers the number of a refusal: told is then { 0, page, place }, and all of list is untouched. The caller answers
+ * for the pointers as for tollgilt_list, list being what out is there, aligned as uint32_t; and a call uses the stack as there. */
+uint32_t tollgilt_find(const uint8_t *buffer, size_t size, const size_t *starts, size_t starts_count, const size_t *lens, size_t lens_count,
+                       uint32_t number, uint32_t *list, size_t room, uint32_t told[3]);
 
 #ifdef __cplusplus
 }

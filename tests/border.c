@@ -68,19 +68,28 @@ static struct range lend_copy(const void *bytes, size_t size) {
 
 /* ---- calls ---- */
 
-/* A function of the border: what is said of its answer, the room that it asks for, and how many numbers it tells, of which the second and third are the
- * page and the place of a refusal. */
+/* A function of the border: what is said of its answer, the size of what it lays into its room, how much room it asks for, counted in these, and how many
+ * numbers it tells, of which the second and third are the page and the place of a refusal. */
 struct function {
     const char *name;
     uint32_t (*call)(const uint8_t *, size_t, const size_t *, size_t, const size_t *, size_t, uint8_t *, size_t, uint32_t *);
-    size_t room, told;
+    size_t unit, room, told;
 };
 
-enum { LIST, FRESH, FUNCTIONS, TOLD = 12 };
+/* The package number that is looked for. */
+static uint32_t asked = 2394428;
+
+static uint32_t find(const uint8_t *buffer, size_t size, const size_t *starts, size_t starts_count, const size_t *lens, size_t lens_count, uint8_t *out,
+                     size_t room, uint32_t *told) {
+    return tollgilt_find(buffer, size, starts, starts_count, lens, lens_count, asked, (uint32_t *)(void *)out, room, told);
+}
+
+enum { LIST, FRESH, FIND, FUNCTIONS, TOLD = 12 };
 
 static const struct function functions[FUNCTIONS] = {
-    [LIST] = {"listed", tollgilt_list, TOLLGILT_LISTING_ROOM, 3},
-    [FRESH] = {"afresh", tollgilt_fresh, TOLLGILT_PAGE_ROOM, TOLD},
+    [LIST] = {"listed", tollgilt_list, 1, TOLLGILT_LISTING_ROOM, 3},
+    [FRESH] = {"afresh", tollgilt_fresh, 1, TOLLGILT_PAGE_ROOM, TOLD},
+    [FIND] = {"found", find, sizeof(uint32_t), TOLLGILT_ROWS, 3},
 };
 
 struct answer {
@@ -89,9 +98,9 @@ struct answer {
     uint8_t laid[TOLLGILT_LISTING_ROOM];
 };
 
-/* How many bytes were laid into the room: the length of a listing, or of all fresh pages together. */
+/* How many bytes were laid into the room: the length of a listing, of all fresh pages together, or of the numbers of rows. */
 static size_t laid(const struct function *f, const uint32_t *told) {
-    size_t length = f->told == TOLD ? 0 : told[0];
+    size_t length = f->told == TOLD ? 0 : told[0] * f->unit;
     for (size_t i = 3; i < f->told; i++)
         length += told[i];
     return length;
@@ -103,10 +112,10 @@ static struct answer call(const struct function *f, const uint8_t *buffer, size_
     struct range b = lend_copy(buffer, size);
     struct range s = lend_copy(starts, starts_count * sizeof *starts);
     struct range l = lend_copy(lens, lens_count * sizeof *lens);
-    struct range o = lend(room);
+    struct range o = lend(room * f->unit);
     struct range t = lend(f->told * sizeof(uint32_t));
     static struct answer a;
-    memset(o.bytes, poison, room);
+    memset(o.bytes, poison, room * f->unit);
     memset(t.bytes, 0xA5, f->told * sizeof(uint32_t));
     if (refused)
         seal(o);
@@ -114,10 +123,10 @@ static struct answer call(const struct function *f, const uint8_t *buffer, size_
                        (uint32_t *)(void *)t.bytes);
     memset(a.told, 0, sizeof a.told);
     memcpy(a.told, t.bytes, f->told * sizeof(uint32_t));
-    size_t length = laid(f, a.told) <= room ? laid(f, a.told) : 0;
+    size_t length = laid(f, a.told) <= room * f->unit ? laid(f, a.told) : 0;
     memcpy(a.laid, o.bytes, length <= sizeof a.laid ? length : 0);
     a.rest_untouched = 1;
-    for (size_t i = length; i < room; i++)
+    for (size_t i = length; i < room * f->unit; i++)
         a.rest_untouched &= o.bytes[i] == poison;
     give_back(b), give_back(s), give_back(l), give_back(o), give_back(t);
     return a;
@@ -129,7 +138,7 @@ static void fact_of(const struct function *f, const char *name, int holds) {
     fact(both, holds);
 }
 
-/* The function refuses the call with these numbers, and its room, which lacks so many bytes of what it asks for, is untouched. */
+/* The function refuses the call with these numbers, and its room, which lacks so many bytes or numbers of what it asks for, is untouched. */
 static void refused_by(const struct function *f, const char *name, const uint8_t *buffer, size_t size, const size_t *starts, size_t starts_count,
                        const size_t *lens, size_t lens_count, size_t lack, uint32_t number, uint32_t page, uint32_t place) {
     size_t room = lack < f->room ? f->room - lack : 0;
@@ -192,9 +201,18 @@ static void answered_by(const struct function *f, const char *name, const struct
     }
 }
 
-/* The sheets give these lines and these fresh pages. */
-static void answered_sheets(const char *name, const struct sheets *set, const char *lines, const struct sheets *fresh) {
+/* The number is in so many rows of the sheets' plan, which are these. */
+static void found_rows(const char *name, const struct sheets *set, uint32_t number, uint32_t held, const uint32_t *rows) {
+    uint32_t told[3] = {held};
+    asked = number;
+    answered_by(&functions[FIND], name, set, told, rows);
+    asked = 2394428;
+}
+
+/* The sheets give these lines and these fresh pages, and in no row but this the number that is looked for, in none where it is 0. */
+static void answered_sheets(const char *name, const struct sheets *set, const char *lines, const struct sheets *fresh, uint32_t row) {
     uint32_t listed[3] = {(uint32_t)strlen(lines)}, told[TOLD] = {(uint32_t)fresh->count};
+    found_rows(name, set, asked, row > 0, &row);
     for (size_t i = 0; i < fresh->count; i++)
         told[3 + i] = (uint32_t)fresh->lens[i];
     answered_by(&functions[LIST], name, set, listed, lines);
@@ -213,7 +231,7 @@ static void plans(void) {
     struct sheets one = {0}, nine = {0}, back = {0}, spread = {0}, fresh = {0};
     add_bytes(&one, example, sizeof example - 1);
     add(&fresh, "Ida", 1, 1, "<S c=\"412\"><M p=\"2394428\" m=\"1\" v=\"0,5\"/></S>", 0);
-    answered_sheets("the paper's example", &one, HEAD_LINES "row=H\nMP.S.c=412\nrow=M\nMP.S.M.p=2394428\nMP.S.M.m=1\nMP.S.M.v=0,5\nrows=2\n", &fresh);
+    answered_sheets("the paper's example", &one, HEAD_LINES "row=H\nMP.S.c=412\nrow=M\nMP.S.M.p=2394428\nMP.S.M.m=1\nMP.S.M.v=0,5\nrows=2\n", &fresh, 2);
 
     char lines[1000] = HEAD_LINES, rows[1000] = "<S>";
     for (int a = 1; a <= 9; a++) {
@@ -227,12 +245,12 @@ static void plans(void) {
     strcat(rows, "</S>");
     fresh = (struct sheets){0}, add(&fresh, "Ida", 1, 1, rows, 0);
     fact("nine full pages fill the most that pages can", nine.size == 9 * TOLLGILT_PAGE_BYTES);
-    answered_sheets("nine full pages", &nine, lines, &fresh);
+    answered_sheets("nine full pages", &nine, lines, &fresh, 0);
 
     back = nine;
     for (int i = 0; i < 9; i++)
         back.starts[i] = nine.starts[8 - i];
-    answered_sheets("nine full pages in the other order", &back, lines, &fresh);
+    answered_sheets("nine full pages in the other order", &back, lines, &fresh, 0);
 
     memset(spread.buffer, '<', sizeof spread.buffer);
     for (int i = 0; i < 9; i++) {
@@ -241,7 +259,34 @@ static void plans(void) {
         memcpy(spread.buffer + spread.starts[i], nine.buffer + nine.starts[i], nine.lens[i]);
     }
     spread.count = 9, spread.size = 9 * 1500 + 100;
-    answered_sheets("pages that lie apart in their buffer, other bytes between them", &spread, lines, &fresh);
+    answered_sheets("pages that lie apart in their buffer, other bytes between them", &spread, lines, &fresh, 0);
+}
+
+/* The rows that hold a number, of plans in which some do and all do. */
+static void found(void) {
+    struct sheets set = {0};
+    const uint32_t both[] = {2, 5}, one[] = {4};
+    uint32_t all[TOLLGILT_ROWS];
+    add(&set, "Ida", 2, 2, "<S><M p=\"02394428\" m=\"1\"/><R t=\"02394428\"/></S>", 0);
+    add(&set, "Ida", 1, 2, "<S c=\"412\"><M p=\"2394428\"/><M a=\"2394428\"/><M p=\"00230272\"/></S>", 0);
+    found_rows("rows of two pages, handed in the other way round", &set, 2394428, 2, both);
+    found_rows("another number of the plan", &set, 230272, 1, one);
+    found_rows("a number with a wrong check digit", &set, 2394429, 0, one);
+    found_rows("the number 0", &set, 0, 0, one);
+    found_rows("the largest number", &set, UINT32_MAX, 0, one);
+    found_rows("a number of nine digits whose last eight are on the plan", &set, 102394428, 0, one);
+
+    char rows[1300] = "<S>";
+    for (int i = 0; i < 64; i++)
+        strcat(rows, "<M p=\"2394428\"/>");
+    strcat(rows, "</S>");
+    set = (struct sheets){0};
+    for (int a = 1; a <= 4; a++)
+        add(&set, "Ida", a, 4, rows, 0);
+    for (uint32_t i = 0; i < TOLLGILT_ROWS; i++)
+        all[i] = i + 1;
+    found_rows("256 rows, which all hold the number", &set, 2394428, TOLLGILT_ROWS, all);
+    found_rows("256 rows, of which none does", &set, 230272, 0, one);
 }
 
 /* Five notes of 200 bytes, of which the first ones are this mark: on a fresh page no sixth note of this length fits. */
@@ -357,28 +402,28 @@ static void numbers(void) {
     refused_call("ten pages", page, 5, zeros, 10, fives, 10, 0, 1, 0, 0);
     refused_call("257 pages", page, 5, zeros, 257, zeros, 257, 0, 1, 0, 0);
     refused_call("the same bytes as nine pages", page, 5, zeros, 9, fives, 9, 0, 6, 1, 0);
-    refused_call("a room one byte too small", page, 5, zeros, 1, fives, 1, 1, 1, 0, 0);
-    refused_call("a room of one byte, or the other function's", page, 5, zeros, 1, fives, 1, TOLLGILT_PAGE_ROOM - 1, 1, 0, 0);
+    refused_call("a room one byte or number too small", page, 5, zeros, 1, fives, 1, 1, 1, 0, 0);
+    refused_call("a room of one byte, or another function's, or none", page, 5, zeros, 1, fives, 1, TOLLGILT_PAGE_ROOM - 1, 1, 0, 0);
     refused_call("no room", page, 5, zeros, 1, fives, 1, TOLLGILT_LISTING_ROOM, 1, 0, 0);
 }
 
-/* A room one byte too small for pages that are a plan. */
+/* A room one byte or number too small for pages that are a plan. */
 static void small_rooms(void) {
     struct sheets set = {0};
     add(&set, "Ida", 1, 1, "", 0);
-    refused_call("a plan and a room one byte too small", set.buffer, set.size, set.starts, 1, set.lens, 1, 1, 1, 0, 0);
+    refused_call("a plan and a room one byte or number too small", set.buffer, set.size, set.starts, 1, set.lens, 1, 1, 1, 0, 0);
     refused_call("a plan and no room", set.buffer, set.size, set.starts, 1, set.lens, 1, TOLLGILT_LISTING_ROOM, 1, 0, 0);
 }
 
 /* Empty slices at addresses where there is no memory, as an empty Vec has them. */
 static void dangling(const struct function *f) {
-    static uint8_t out[TOLLGILT_LISTING_ROOM];
-    uint8_t *no_bytes = (uint8_t *)(uintptr_t)1;
+    static uint32_t numbers[TOLLGILT_LISTING_ROOM / sizeof(uint32_t)];
+    uint8_t *out = (uint8_t *)numbers, *no_bytes = (uint8_t *)(uintptr_t)1, *no_room = (uint8_t *)(uintptr_t)f->unit;
     size_t *no_numbers = (size_t *)(uintptr_t)sizeof(size_t);
     size_t zero = 0;
     uint32_t told[TOLD], none[TOLD] = {0}, page_one[TOLD] = {0, 1};
     memset(told, 7, sizeof told);
-    fact_of(f, "nothing at all is refused with 1", f->call(no_bytes, 0, no_numbers, 0, no_numbers, 0, no_bytes, 0, told) == 1);
+    fact_of(f, "nothing at all is refused with 1", f->call(no_bytes, 0, no_numbers, 0, no_numbers, 0, no_room, 0, told) == 1);
     fact_of(f, "its numbers are 0", memcmp(told, none, f->told * sizeof *told) == 0);
     fact_of(f, "no page in no buffer is refused with 1", f->call(no_bytes, 0, no_numbers, 0, no_numbers, 0, out, f->room, told) == 1);
     fact_of(f, "an empty page in no buffer is refused with 2", f->call(no_bytes, 0, &zero, 1, &zero, 1, out, f->room, told) == 2);
@@ -393,8 +438,17 @@ enum { THREADS = 4, TIMES = 500 };
 
 static pthread_barrier_t together;
 
-/* Lists one plan and writes it afresh again and again, beside the other threads, and gives how often the answer was right: the person, a digit, stands in
- * it. */
+/* Whether an answer is that of the plan of this person, a digit: a listing or fresh pages in which the digit stands, or as many rows before the one that holds
+ * the number. */
+static int of_person(size_t function, const uint8_t *out, const uint32_t *told, uint8_t person) {
+    if (function == FIND)
+        return told[0] == 1 && *(const uint32_t *)(const void *)out == (uint32_t)(person - '0') + 1;
+    const char *before = before_person[function];
+    const uint8_t *found = memmem(out, laid(&functions[function], told), before, strlen(before));
+    return found != NULL && found[strlen(before)] == person;
+}
+
+/* Lists one plan, writes it afresh and finds a number in it again and again, beside the other threads, and gives how often the answer was its own. */
 static void *answers(void *one) {
     const struct sheets *set = one;
     uint8_t *out = malloc(TOLLGILT_LISTING_ROOM);
@@ -402,11 +456,9 @@ static void *answers(void *one) {
     pthread_barrier_wait(&together);
     for (int i = 0; i < TIMES; i++) {
         const struct function *f = &functions[i % FUNCTIONS];
-        const char *before = before_person[i % FUNCTIONS];
         uint32_t told[TOLD];
         uint32_t number = f->call(set->buffer, set->size, set->starts, set->count, set->lens, set->count, out, f->room, told);
-        uint8_t *found = number == 0 ? memmem(out, laid(f, told), before, strlen(before)) : NULL;
-        right += found != NULL && found[strlen(before)] == set->buffer[PERSON];
+        right += number == 0 && of_person(i % FUNCTIONS, out, told, set->buffer[PERSON]);
     }
     free(out);
     return (void *)right;
@@ -418,7 +470,11 @@ static void threads(void) {
     pthread_barrier_init(&together, NULL, THREADS);
     for (int i = 0; i < THREADS; i++) {
         char person[2] = {(char)('0' + i), 0};
-        add(&sets[i], person, 1, 1, "<S><X t=\"x\"/></S>", TOLLGILT_PAGE_BYTES);
+        char rest[100] = "<S>";
+        for (int before = 0; before < i; before++)
+            strcat(rest, "<X t=\"x\"/>");
+        strcat(rest, "<M p=\"2394428\"/></S>");
+        add(&sets[i], person, 1, 1, rest, TOLLGILT_PAGE_BYTES);
         pthread_create(&running[i], NULL, answers, &sets[i]);
     }
     for (int i = 0; i < THREADS; i++) {
@@ -430,6 +486,7 @@ static void threads(void) {
 
 int main(void) {
     plans();
+    found();
     nine_fresh();
     refusals();
     numbers();

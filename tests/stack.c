@@ -12,6 +12,7 @@
 enum { STACK = 4 << 20, PROMISED = 256 << 10, PATTERN = 0x5C, ROOM = 9 * TOLLGILT_PAGE_BYTES };
 
 static uint8_t buffer[ROOM], out[TOLLGILT_LISTING_ROOM];
+static uint32_t list[TOLLGILT_ROWS];
 static size_t starts[9], lens[9], pages;
 static uint32_t number, told[12];
 static uint8_t *top;
@@ -23,9 +24,17 @@ struct function {
     size_t most;
 };
 
-enum { LIST, FRESH, FUNCTIONS };
+/* Finds a package number, in a list of its own. */
+static uint32_t find(const uint8_t *bytes, size_t size, const size_t *first, size_t first_count, const size_t *lengths, size_t lengths_count, uint8_t *room, size_t room_size,
+                     uint32_t *numbers) {
+    (void)room, (void)room_size;
+    return tollgilt_find(bytes, size, first, first_count, lengths, lengths_count, 2394428, list, TOLLGILT_ROWS, numbers);
+}
 
-static struct function functions[FUNCTIONS] = {[LIST] = {"tollgilt_list", tollgilt_list, 0}, [FRESH] = {"tollgilt_fresh", tollgilt_fresh, 0}};
+enum { LIST, FRESH, FIND, FUNCTIONS };
+
+static struct function functions[FUNCTIONS] = {
+    [LIST] = {"tollgilt_list", tollgilt_list, 0}, [FRESH] = {"tollgilt_fresh", tollgilt_fresh, 0}, [FIND] = {"tollgilt_find", find, 0}};
 
 static void *call(void *function) {
     uint8_t here;
@@ -72,9 +81,10 @@ static void page(size_t a, size_t z, const char *row) {
 
 static int passed, failed;
 
-/* Each function's call on nine full pages of rows of this kind gets its number and stays within what the header promises. */
+/* Each function's call on nine full pages of rows of this kind gets its number, that of fresh pages or of the others, and stays within what the header
+ * promises. */
 static void stay(const char *name, const char *row, size_t z, uint32_t listed, uint32_t fresh) {
-    const uint32_t answers[FUNCTIONS] = {[LIST] = listed, [FRESH] = fresh};
+    const uint32_t answers[FUNCTIONS] = {[LIST] = listed, [FRESH] = fresh, [FIND] = listed};
     for (size_t a = 1; a <= 9; a++)
         page(a, z, row);
     for (size_t i = 0; i < FUNCTIONS; i++) {

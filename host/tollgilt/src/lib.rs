@@ -1,8 +1,8 @@
-//! Joins the sheets of a German medication plan (BMP 2.7), lists the plan and writes it afresh, by the proved library.
+//! Joins the sheets of a German medication plan (BMP 2.7), lists the plan, writes it afresh and finds a package number on it, by the proved library.
 //!
 //! A sheet's barcode holds one page: 1 to 1,400 bytes of XML in Latin-1. One to nine pages make a plan. [`list`] joins them by what they say, in
 //! whatever order they are handed in, and gives the plan as key=value lines, or a [`Refusal`] that names the page and the place. [`fresh`] gives the plan as
-//! fresh pages instead: one spelling for each plan, on as few pages as can hold it.
+//! fresh pages instead: one spelling for each plan, on as few pages as can hold it. [`find`] gives the rows of the plan that hold a package number.
 //!
 //! ```
 //! let page = br#"<MP v="027" U="00112233445566778899AABBCCDDEEFF"><P g="Ida" f="Kern" b="19510704"/><A n="Praxis Holm"
@@ -40,6 +40,9 @@ pub const LISTING_ROOM: usize = 25_200;
 
 /// The room that fresh pages ask for: it is enough for nine full ones.
 pub const PAGE_ROOM: usize = 12_600;
+
+/// The most rows of a plan, and the numbers that a list of rows asks for.
+pub const ROWS: usize = 256;
 
 mod border {
     /// A function of the library: buffer, starts, lengths and room, each as a pointer and a size, and the numbers that it tells, of which the second and
@@ -80,6 +83,19 @@ mod border {
             out: *mut u8,
             room: usize,
             told: *mut [u32; 12],
+        ) -> u32;
+        #[allow(clippy::too_many_arguments)]
+        pub fn tollgilt_find(
+            buffer: *const u8,
+            size: usize,
+            starts: *const usize,
+            starts_count: usize,
+            lens: *const usize,
+            lens_count: usize,
+            number: u32,
+            list: *mut u32,
+            room: usize,
+            told: *mut [u32; 3],
         ) -> u32;
     }
 }
@@ -230,4 +246,73 @@ pub fn fresh_into(
 ) -> Result<[usize; PAGES], Refusal> {
     let [_, _, _, lengths @ ..] = call(border::tollgilt_fresh, buffer, starts, lens, out)?;
     Ok(lengths.map(|length| length as usize))
+}
+
+/// The rows of a plan that hold a package number (PZN), counted from 1 as in the listing, ascending; none where the number is not on the plan.
+///
+/// Any number may be asked for: its check digit is not judged. 02394428 on a box is 2394428.
+///
+/// ```
+/// # let page = b"<MP v='027' U='00112233445566778899AABBCCDDEEFF'><P f='Kern' g='Ida' b='19510704'/><A n='Praxis Holm' t='2023-03-01T09:30:00'/>\
+/// #     <S c='412'><M p='02394428'/><M a='x'/><M p='2394428'/></S></MP>";
+/// assert_eq!(tollgilt::find(&[page], 2394428)?, [2, 4]);
+/// assert_eq!(tollgilt::find(&[page], 2394429)?, []);
+/// # Ok::<(), tollgilt::Refusal>(())
+/// ```
+///
+/// # Errors
+///
+/// A [`Refusal`] where the pages are no plan; also for no page, and for more than nine.
+pub fn find(pages: &[&[u8]], number: u32) -> Result<Vec<u32>, Refusal> {
+    let (buffer, starts, lens) = handed_in(pages);
+    let mut list = vec![0; ROWS];
+    let held = find_into(&buffer, &starts, &lens, number, &mut list)?;
+    list.truncate(held);
+    Ok(list)
+}
+
+/// The same without allocating: pages are handed in as for [`list_into`], and the rows laid at the beginning of `list`. Gives how many there are. The list
+/// behind them is untouched, and all of it where the call is refused.
+///
+/// ```
+/// use tollgilt::{find_into, Refusal, ROWS};
+///
+/// # let page = b"<MP v='027' U='00112233445566778899AABBCCDDEEFF'><P f='Kern' g='Ida' b='19510704'/><A n='Praxis Holm' t='2023-03-01T09:30:00'/>\
+/// #     <S><M p='02394428'/></S></MP>";
+/// let mut list = [7; ROWS];
+/// assert_eq!(find_into(page, &[0], &[page.len()], 2394428, &mut list), Ok(1));
+/// assert_eq!(list[..2], [1, 7]);
+/// assert_eq!(find_into(page, &[0], &[page.len()], 2394428, &mut list[1..]), Err(Refusal::NoRoom));
+/// ```
+///
+/// # Errors
+///
+/// A [`Refusal`] where the pages are no plan; [`Refusal::NoRoom`] also for what [`list_into`] gives it, and where `list` has less than [`ROWS`] numbers.
+pub fn find_into(
+    buffer: &[u8],
+    starts: &[usize],
+    lens: &[usize],
+    number: u32,
+    list: &mut [u32],
+) -> Result<usize, Refusal> {
+    let mut told = [0; 3];
+    // SAFETY: each pair of arguments is one slice. The library writes to `list` and `told` alone, within their lengths, and keeps no pointer.
+    let refused = unsafe {
+        border::tollgilt_find(
+            buffer.as_ptr(),
+            buffer.len(),
+            starts.as_ptr(),
+            starts.len(),
+            lens.as_ptr(),
+            lens.len(),
+            number,
+            list.as_mut_ptr(),
+            list.len(),
+            &mut told,
+        )
+    };
+    match refused {
+        0 => Ok(told[0] as usize),
+        _ => Err(Refusal::told(refused, told[1], told[2])),
+    }
 }

@@ -19,8 +19,8 @@ use std::fmt;
 /// ```
 #[derive(Clone, Copy, Debug, PartialEq, Eq, Hash)]
 pub enum Refusal {
-    /// 1: the call hands in no page or more than nine; for [`list_into`](crate::list_into) and [`fresh_into`](crate::fresh_into) also a page outside the
-    /// buffer, starts and lengths that are not equally many, or too little room.
+    /// 1: the call hands in no page or more than nine; for [`list_into`](crate::list_into), [`fresh_into`](crate::fresh_into) and
+    /// [`find_into`](crate::find_into) also a page outside the buffer, starts and lengths that are not equally many, or too little room.
     NoRoom,
     /// 2: the page is empty or has more than 1,400 bytes.
     PageSize { page: u32 },

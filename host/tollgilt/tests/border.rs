@@ -5,16 +5,20 @@ mod seeds;
 use std::fmt::Debug;
 
 use inputs::{case, Random};
-use second::call::{fresh_call, listing_call};
+use second::call::{find_call, fresh_call, listing_call};
 use second::Refusal;
 use seeds::seeds;
-use tollgilt::{fresh_into, list_into, LISTING_ROOM, PAGES, PAGE_ROOM};
+use tollgilt::{find_into, fresh_into, list_into, LISTING_ROOM, PAGES, PAGE_ROOM, ROWS};
 
-/// What stands in the room before a call, and must stand there afterwards wherever nothing was laid.
+/// What stands in the room or in the list before a call, and must stand there afterwards wherever nothing was laid.
 const POISONS: [u8; 2] = [0x00, 0xA5];
+const LIST_POISONS: [u32; 2] = [0, 0xA5A5_A5A5];
 
-/// Compares a call with the second program, for a listing and for fresh pages: the numbers that are told, or the refusal, and every byte of the room. `room`
-/// says how much is lent of what the call asks for.
+/// Numbers that are asked for: one that many generated plans hold, and one that none does.
+const NUMBERS: [u32; 2] = [2_394_428, 0];
+
+/// Compares a call with the second program, for a listing, for fresh pages and for the rows that hold a number: the numbers that are told, or the refusal, and
+/// every byte of the room or number of the list. `room` says how much is lent of what the call asks for.
 fn compare(
     name: &str,
     buffer: &[u8],
@@ -25,15 +29,27 @@ fn compare(
     let lent = room(LISTING_ROOM);
     let lines = listing_call(buffer, starts, lens, lent);
     let lines = lines.map(|lines| (lines.len(), lines));
-    same(&format!("{name}, listed"), lent, &lines, |out| {
+    same(&format!("{name}, listed"), lent, POISONS, &lines, |out| {
         list_into(buffer, starts, lens, out)
     });
     let lent = room(PAGE_ROOM);
     let pages = fresh_call(buffer, starts, lens, lent);
     let pages = pages.map(|(pages, lengths)| (nine(&lengths), pages));
-    same(&format!("{name}, afresh"), lent, &pages, |out| {
+    same(&format!("{name}, afresh"), lent, POISONS, &pages, |out| {
         fresh_into(buffer, starts, lens, out)
     });
+    let lent = room(ROWS);
+    for number in NUMBERS {
+        let rows = find_call(buffer, starts, lens, number, lent);
+        let rows = rows.map(|rows| (rows.len(), rows.iter().map(|&row| row as u32).collect()));
+        same(
+            &format!("{name}, found {number}"),
+            lent,
+            LIST_POISONS,
+            &rows,
+            |list| find_into(buffer, starts, lens, number, list),
+        );
+    }
 }
 
 /// Nine lengths, 0 behind the last page.
@@ -43,21 +59,22 @@ fn nine(lengths: &[usize]) -> [usize; PAGES] {
     nine
 }
 
-/// A call into a room tells these numbers and lays these bytes, or is refused so, and leaves the rest of the room as it was.
-fn same<Told: PartialEq + Debug>(
+/// A call into a room tells these numbers and lays these bytes, or numbers into a list, or is refused so, and leaves the rest as it was.
+fn same<Told: PartialEq + Debug, Unit: Copy + PartialEq>(
     name: &str,
     room: usize,
-    expected: &Result<(Told, Vec<u8>), Refusal>,
-    call: impl Fn(&mut [u8]) -> Result<Told, tollgilt::Refusal>,
+    poisons: [Unit; 2],
+    expected: &Result<(Told, Vec<Unit>), Refusal>,
+    call: impl Fn(&mut [Unit]) -> Result<Told, tollgilt::Refusal>,
 ) {
-    for poison in POISONS {
+    for poison in poisons {
         let mut out = vec![poison; room];
         let given = call(&mut out);
         let mut after = vec![poison; room];
         match expected {
-            Ok((told, bytes)) => {
+            Ok((told, laid)) => {
                 assert_eq!(given.as_ref(), Ok(told), "{name}");
-                after[..bytes.len()].copy_from_slice(bytes);
+                after[..laid.len()].copy_from_slice(laid);
             }
             Err(refusal) => {
                 let given = given.expect_err(name);
@@ -97,7 +114,7 @@ fn edge(size: usize, random: &mut Random) -> usize {
 }
 
 #[test]
-fn pages_that_lie_anywhere_in_the_buffer_are_listed_written_or_refused_alike() {
+fn pages_that_lie_anywhere_in_the_buffer_are_listed_written_searched_or_refused_alike() {
     for seed in seeds(2_000) {
         let mut random = Random::new(seed ^ 0xB0DE);
         let (buffer, starts, lens) = scattered(&case(seed).pages, &mut random);
@@ -133,11 +150,11 @@ fn numbers_that_do_not_fit_are_refused_like_in_the_second_program() {
 }
 
 #[test]
-fn a_room_one_byte_too_small_is_refused_with_1_and_untouched() {
+fn a_room_one_byte_or_number_too_small_is_refused_with_1_and_untouched() {
     let page = case(0).pages.concat();
-    for less in [1, 100, PAGE_ROOM - 1, PAGE_ROOM] {
+    for less in [1, 100, ROWS - 1, ROWS, PAGE_ROOM - 1, PAGE_ROOM] {
         compare("a small room", &page, &[0], &[page.len()], |asked| {
-            asked - less
+            asked.saturating_sub(less)
         });
     }
     compare("no room", &page, &[0], &[page.len()], |_| 0);
@@ -213,7 +230,7 @@ fn any_number_of_pages_is_answered() {
 }
 
 #[test]
-fn a_thread_with_256_kilobytes_of_stack_can_make_either_call() {
+fn a_thread_with_256_kilobytes_of_stack_can_make_every_call() {
     let thread = std::thread::Builder::new().stack_size(256 << 10);
     let calls = || {
         for seed in 0..20 {
@@ -221,7 +238,9 @@ fn a_thread_with_256_kilobytes_of_stack_can_make_either_call() {
             let mut out = vec![0; LISTING_ROOM];
             let listed = list_into(&buffer, &starts, &lens, &mut out).is_ok();
             let written = fresh_into(&buffer, &starts, &lens, &mut out).is_ok();
+            let found = find_into(&buffer, &starts, &lens, 2_394_428, &mut [0; ROWS]).is_ok();
             assert!(listed || !written, "seed {seed}");
+            assert_eq!(listed, found, "seed {seed}");
         }
     };
     thread.spawn(calls).unwrap().join().unwrap();
