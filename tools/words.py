@@ -39,7 +39,8 @@ TAKES = {
                  " (allowed: YYYYMMDD after 18750101; day unknown: YYYYMM00; day and month unknown: YYYY0000; year from 1875 on)"),
 }
 
-USAGE = ("tollgilt [--table | --html DATEI | --fresh ORDNER] BLATT...", "tollgilt [--table | --html FILE | --fresh DIR] SHEET...")
+USAGE = ("tollgilt [--table | --html DATEI | --fresh ORDNER | --find PZN] BLATT...",
+         "tollgilt [--table | --html FILE | --fresh DIR | --find NUMBER] SHEET...")
 
 HELP = """\
 {usage[0]}
@@ -52,6 +53,9 @@ liefert: für jedes Blatt eine eigene Datei. Ihre Reihenfolge spielt keine Rolle
   --html DATEI    der Plan als Seite zum Ansehen und Drucken im Browser
   --fresh ORDNER  der Plan neu geschrieben, auf so wenige Blätter wie möglich:
                   ORDNER/sheet-1.xml und so weiter
+  --find PZN      nur die Zeilen des Plans mit dieser PZN, als Tabelle. PZN wie
+                  auf der Packung: ein bis acht Ziffern, mit oder ohne Nullen am
+                  Anfang, auch "PZN-02394428", "PZN 02394428" und "-02394428"
   (ohne Option)   der Plan als Zeilen Feld=Wert, in Latin-1 wie die Blätter;
                   auf einem Terminal mit UTF-8 in UTF-8
   --help          dieser Text
@@ -65,8 +69,12 @@ die Nummer der Ablehnung, das Blatt, gezählt von 1 an (bei 11 die Seite, die
 fehlt), und die Stelle darin, gezählt von 0 an (bei 14 die Zeile des Plans,
 gezählt von 1 an).
 
+--find sagt zuerst, in wie vielen Zeilen die PZN steht; über jeder steht ihre
+Nummer, gezählt von 1 an. Steht die PZN nicht auf dem Plan, so sagt das eine
+Meldung; die Prüfziffer wird dabei nicht beurteilt.
+
 Exit-Status: 0 ein Plan, 1 kein Plan, 2 falsch aufgerufen, 3 etwas lässt sich
-nicht lesen, schreiben oder ausführen.
+nicht lesen, schreiben oder ausführen, 4 die PZN steht nicht auf dem Plan.
 
 ----------------------------------- English -----------------------------------
 
@@ -80,6 +88,10 @@ its own for each sheet. Their order does not matter.
   --html FILE     the plan as a page to look at and to print with a browser
   --fresh DIR     the plan written afresh, on as few sheets as can hold it:
                   DIR/sheet-1.xml and so on
+  --find NUMBER   only the rows of the plan with this package number (PZN), as a
+                  table. NUMBER as on the box: one to eight digits, with or
+                  without zeros at the beginning, also "PZN-02394428",
+                  "PZN 02394428" and "-02394428"
   (no option)     the plan as key=value lines, in Latin-1 like the sheets;
                   on a terminal with UTF-8 in UTF-8
   --help          this text
@@ -92,8 +104,12 @@ message says why not and what to do. Its last line is for questions: the number
 of the refusal, the sheet counted from 1 (at 11 the page that is missing), and
 the place in it counted from 0 (at 14 the plan's row counted from 1).
 
+--find says first how many rows have the number; above each stands which row it
+is, counted from 1. Where the number is not on the plan, a message says so; its
+check digit is not judged.
+
 Exit status: 0 a plan, 1 no plan, 2 bad use, 3 something cannot be read, written
-or run.
+or run, 4 the number is not on the plan.
 """.format(usage=USAGE)
 
 WORDS = {
@@ -120,7 +136,9 @@ WORDS = {
     "unknown option": ("Diese Option gibt es nicht: {name}", "no such option: {name}"),
     "nameless": ("Hinter {option} fehlt der Name.", "no name behind {option}."),
     "twice": ("{option} steht zweimal da.", "{option} is there twice."),
-    "one form": ("Von --table, --html und --fresh geht immer nur eines.", "of --table, --html and --fresh only one can be had."),
+    "no number": ("Hinter --find steht keine PZN (ein bis acht Ziffern, auch mit „PZN-“, „PZN “ oder „-“ davor): {text}",
+                  'no package number behind --find (one to eight digits, also with "PZN-", "PZN " or "-" before them): {text}'),
+    "one form": ("Von --table, --html, --fresh und --find geht immer nur eines.", "of --table, --html, --fresh and --find only one can be had."),
     "no file": ("Diese Datei gibt es nicht: {name}", "no such file: {name}"),
     "folder": ("Das ist ein Ordner, kein Blatt: {name}", "a folder, not a sheet: {name}"),
     "zero": ("Das ist kein einzelnes Blatt (die Datei enthält ein Null-Byte): {name}\nJedes Blatt in eine eigene Datei scannen.",
@@ -131,6 +149,11 @@ WORDS = {
     "not a folder": ("Das ist kein Ordner: {name}", "not a folder: {name}"),
     "there": ("Das gibt es schon, und es wird nicht überschrieben: {name}\nBitte einen anderen Namen wählen.",
               "there already, and not overwritten: {name}\nPlease choose another name."),
+
+    # what was found
+    "held once": ("Die PZN {number} steht in einer Zeile des Plans.", "The package number {number} is in one row of the plan."),
+    "held": ("Die PZN {number} steht in {count} Zeilen des Plans.", "The package number {number} is in {count} rows of the plan."),
+    "not held": ("Die PZN {number} steht nicht auf dem Plan.", "the package number {number} is not on the plan."),
 
     # what cannot be read, written or run
     "unreadable": ("Die Datei lässt sich nicht lesen ({why}): {name}\n{support}", "the file cannot be read ({why}): {name}\n{support}"),
