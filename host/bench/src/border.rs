@@ -27,6 +27,36 @@ extern "C" {
         room: usize,
         told: *mut [u32; 11],
     ) -> u32;
+    fn probe_build(
+        rows: *const u32,
+        rows_length: usize,
+        count: u32,
+        index: *mut u32,
+        index_length: usize,
+        told: *mut [u32; 1],
+    ) -> u32;
+    fn probe_first(
+        rows: *const u32,
+        rows_length: usize,
+        count: u32,
+        index: *const u32,
+        index_length: usize,
+        pairs: u32,
+        number: u32,
+        told: *mut [u32; 2],
+    ) -> u32;
+    fn tollgilt_find(
+        buffer: *const u8,
+        size: usize,
+        starts: *const usize,
+        starts_count: usize,
+        lens: *const usize,
+        lens_count: usize,
+        number: u32,
+        list: *mut u32,
+        room: usize,
+        told: *mut [u32; 3],
+    ) -> u32;
     fn tollgilt_list(
         buffer: *const u8,
         size: usize,
@@ -100,11 +130,15 @@ impl Call {
     }
 }
 
-/// The rooms that a caller lends, and the plan in numbers that was read last: its patch, its number of rows and the spans of its head.
+/// The rooms that a caller lends, the plan in numbers that was read last: its patch, its number of rows and the spans of its head, and the number of pairs of the
+/// index that was built last.
 pub struct Rooms {
     plan: [u32; 56],
+    pairs: u32,
     rows: Vec<u32>,
     text: Vec<u8>,
+    index: Vec<u32>,
+    list: Vec<u32>,
     lines: Vec<u8>,
     pages: Vec<u8>,
 }
@@ -113,8 +147,11 @@ impl Rooms {
     pub fn new() -> Self {
         Self {
             plan: [0; 56],
+            pairs: 0,
             rows: vec![0; 256 * 48],
             text: vec![0; 12_600],
+            index: vec![0; 2 * 256],
+            list: vec![0; 256],
             lines: vec![0; 25_200],
             pages: vec![0; 12_600],
         }
@@ -200,5 +237,79 @@ impl Rooms {
             )
         };
         told[3..].iter().sum::<u32>() as usize
+    }
+
+    /// 256 medication rows, row i with the number i: of all plans the one whose index takes longest, since every pair is put before all that are there.
+    pub fn number_all(&mut self) {
+        self.plan[1] = 256;
+        for (row, record) in (1..).zip(self.rows.chunks_mut(48)) {
+            record[..2].copy_from_slice(&[2, row]);
+        }
+    }
+
+    /// The package numbers of the rows that have one.
+    pub fn numbers(&self) -> Vec<u32> {
+        let records = self.rows.chunks(48).take(self.plan[1] as usize);
+        let medication = records.filter(|record| record[0] == 2);
+        let numbers = medication.map(|record| record[1]);
+        numbers.filter(|&number| number != 0).collect()
+    }
+
+    /// Builds the index of the rows: how many pairs it has, 0 for a refusal.
+    pub fn build(&mut self) -> usize {
+        let mut told = [0];
+        // SAFETY: each pair of arguments is one slice; the index is written within its length, `told` has the one number that is written.
+        unsafe {
+            probe_build(
+                self.rows.as_ptr(),
+                self.rows.len(),
+                self.plan[1],
+                self.index.as_mut_ptr(),
+                self.index.len(),
+                &mut told,
+            )
+        };
+        self.pairs = told[0];
+        told[0] as usize
+    }
+
+    /// Asks the index for a number: how many rows hold it, 0 for a refusal.
+    pub fn ask(&self, number: u32) -> usize {
+        let mut told = [0; 2];
+        // SAFETY: each pair of arguments is one slice, which is only read; `told` has the two numbers that are written.
+        unsafe {
+            probe_first(
+                self.rows.as_ptr(),
+                self.rows.len(),
+                self.plan[1],
+                self.index.as_ptr(),
+                self.index.len(),
+                self.pairs,
+                number,
+                &mut told,
+            )
+        };
+        told[0] as usize
+    }
+
+    /// Finds a number in the pages: how many rows hold it, 0 for a refusal.
+    pub fn find(&mut self, call: &Call, number: u32) -> usize {
+        let mut told = [0; 3];
+        // SAFETY: each pair of arguments is one slice; the list is written within its length, `told` has the three numbers that are written.
+        unsafe {
+            tollgilt_find(
+                call.buffer.as_ptr(),
+                call.buffer.len(),
+                call.starts.as_ptr(),
+                call.starts.len(),
+                call.lens.as_ptr(),
+                call.lens.len(),
+                number,
+                self.list.as_mut_ptr(),
+                self.list.len(),
+                &mut told,
+            )
+        };
+        told[0] as usize
     }
 }

@@ -65,6 +65,15 @@ fn works<'a>(pages: &'a [Vec<u8>], call: &'a Call) -> Vec<Work<'a>> {
     let rooms = || border::Rooms::new();
     let (mut reading, mut listing, mut writing, mut fresh) = (rooms(), rooms(), rooms(), rooms());
     writing.read(call);
+    let (mut building, mut asking, mut finding) = (rooms(), rooms(), rooms());
+    let (mut most, mut asking_most) = (rooms(), rooms());
+    building.read(call);
+    asking.read(call);
+    asking.build();
+    let number = asking.numbers()[0];
+    most.number_all();
+    asking_most.number_all();
+    asking_most.build();
     let mut all: Vec<Work<'a>> = Vec::new();
     let mut add =
         |name, words, run: Box<dyn FnMut() -> usize + 'a>| all.push(Work { name, words, run });
@@ -109,6 +118,31 @@ fn works<'a>(pages: &'a [Vec<u8>], call: &'a Call) -> Vec<Work<'a>> {
         Box::new(move || fresh.fresh(call)),
     );
     add(
+        "index",
+        "**the index** of the plan as read, built alone",
+        Box::new(move || building.build()),
+    );
+    add(
+        "ask",
+        "**a question** about it: first row and count, the index tested",
+        Box::new(move || asking.ask(number)),
+    );
+    add(
+        "index-256",
+        "the index of 256 rows in the order that takes longest",
+        Box::new(move || most.build()),
+    );
+    add(
+        "ask-256",
+        "a question about that",
+        Box::new(move || asking_most.ask(256)),
+    );
+    add(
+        "find",
+        "**finding** a number: reading, the index, a question",
+        Box::new(move || finding.find(call, number)),
+    );
+    add(
         "second-read",
         "the second program's reading, in Rust, unproved",
         Box::new(move || second::read(&views).map_or(0, |plan| plan.rows.len())),
@@ -146,6 +180,10 @@ fn right(works: &mut [Work], pages: &[Vec<u8>]) -> bool {
     let views: Vec<&[u8]> = pages.iter().map(Vec::as_slice).collect();
     let plan = second::read(&views).expect("the pages are a plan");
     let (rows, lines) = (plan.rows.len(), second::listing(&plan).len());
+    let index = second::index::index_of(&second::layout::lay(&plan).0.rows);
+    let first = index.iter().min_by_key(|pair| pair.row);
+    let number = first.expect("some row has a package number").number;
+    let held = index.iter().filter(|pair| pair.number == number).count();
     let fresh = fresh_length(&views);
     assert!(fresh > 0, "the plan fits on nine fresh pages");
     works.iter_mut().all(|work| {
@@ -155,6 +193,10 @@ fn right(works: &mut [Work], pages: &[Vec<u8>]) -> bool {
             "read" | "second-read" => answer == rows,
             "list" | "second-list" => answer == lines,
             "write" | "fresh" | "second-fresh" => answer == fresh,
+            "index" => answer == index.len(),
+            "index-256" => answer == 256,
+            "ask" | "find" => answer == held,
+            "ask-256" => answer == 1,
             "pugixml" | "expat" | "libxml2" => answer == pages.len(),
             "scan" => answer == 2_000 * pages.len(),
             "bytes" => answer == pages.iter().map(Vec::len).sum::<usize>(),
@@ -202,15 +244,16 @@ fn main() {
         "Nine pages, {bytes} bytes together (seed {seed}), the quickest of {ROUNDS} runs, {}:\n",
         std::env::consts::ARCH
     );
-    println!("| What | a byte | to one look-up | to pugixml |\n|---|---|---|---|");
+    println!("| What | a byte | to one look-up | to pugixml | to reading |\n|---|---|---|---|---|");
     for (work, time) in works.iter().zip(&times) {
         let time = time.as_secs_f64();
         println!(
-            "| {} | {:.2} ns | {:.1} | {:.2} |",
+            "| {} | {:.2} ns | {:.1} | {:.2} | {:.3} |",
             work.words,
             time * 1e9 / bytes as f64,
             time / seconds("look-up"),
             time / seconds("pugixml"),
+            time / seconds("read"),
         );
     }
 }
