@@ -47,4 +47,5 @@ pub mod Refusals
 pub mod Cited
 pub mod NineCases
 pub mod Birthdays
+pub mod CheckDigit
 pub mod Examples

@@ -6,11 +6,11 @@ use mathlib.Core.List.{List, [], _∷_, _++_}
 use Prim.Native.Nat.{ℕ, _-_, _%_}
 use Prim.Native.String as Str
 use lib.Dec.{eqb}
-use lib.ListN.{length, take, replicate}
+use lib.ListN.{length, replicate}
 use borrow.Author.Tests.{eqb-true}
 use Rattle.paper.specs.Lists.{bytes, same, every, concat}
 use Rattle.paper.specs.Fields.{Kind, is, fieldsOf}
-use Rattle.paper.specs.Rules.{weigh, padded}
+use Rattle.paper.specs.Rules.{weightedSum, padded}
 use Rattle.paper.specs.Plan.{Slots, Head, Row, Plan, sameSlots, sameHead}
 use Rattle.paper.specs.Judging.{judge}
 use Rattle.paper.specs.Reading.{Answer, refusal, plan, read}
@@ -69,7 +69,7 @@ hasLine s (l ∷ ls) = same s (l .key ++ 61 ∷ l .value) || hasLine s ls
 -- "The first seven digits times 1 to 7 are added", and the remainder by 11, for the first row's package number
 abbrev pub hasSum : ℕ → ℕ → List Row → Bool
 hasSum s m [] = false
-hasSum s m (r ∷ rs) = eqb s (weigh 1 (take 7 (padded (decimal (r .pzn))))) && eqb m (s % 11)
+hasSum s m (r ∷ rs) = eqb s (weightedSum (padded (decimal (r .pzn)))) && eqb m (s % 11)
 
 -- the answer is as expected
 abbrev pub meets : Outcome → Answer → Bool

@@ -1,8 +1,8 @@
--- Rules: document 01, "Elements and fields", and for birth dates document 02, ask 1. When a value keeps its field.
+-- Rules: document 01, "Elements and fields", and for birth dates document 02, ask 1; the check digit is set out as ask 3 wants it. When a value keeps its field.
 -- Assumes nothing.
 use mathlib.Core.Bool.{Bool, true, false, not, _&&_, _||_}
 use mathlib.Core.List.{List, [], _∷_, _++_}
-use Prim.Native.Nat.{ℕ, suc, _+_, _*_, _-_, _%_}
+use Prim.Native.Nat.{ℕ, zero, suc, _+_, _*_, _-_, _%_}
 use lib.Dec.{eqb, leb, ltb}
 use lib.ListN.{length, take, drop, getD, replicate}
 use Rattle.paper.specs.Lists.{bytes, if, same, every, count, number, isEmpty, until}
@@ -81,14 +81,31 @@ isDose v = leb 1 (until isDigit v) && tailOk (drop (until isDigit v) v)
 
 -- ---- package number
 
--- digits times k, k + 1, …, added
-abbrev pub weigh : ℕ → List ℕ → ℕ
-weigh k [] = 0
-weigh k (c ∷ s) = k * (c - 48) + weigh (suc k) s
+-- the n-th digit of a value, counted from 1, where the byte 48 is the digit 0; 0 where it has none
+abbrev pub nthDigit : List ℕ → ℕ → ℕ
+nthDigit v zero = 0
+nthDigit v (suc i) = getD v i 0 - 48
 
--- "The first seven digits times 1 to 7 are added; the remainder by 11 equals the eighth digit."
+-- "The first seven digits times 1 to 7 are added": each digit beside its weight. 2394428 is 02394428 in eight digits:
+--
+--     digit      0    2    3    9    4    4    2
+--     weight     1    2    3    4    5    6    7
+--     product    0 +  4 +  9 + 36 + 20 + 24 + 14  =  107  =  9 * 11 + 8
+--
+-- The remainder is 8, and so is the eighth digit.
+abbrev pub weightedSum : List ℕ → ℕ
+weightedSum v =
+    nthDigit v 1 * 1
+    + nthDigit v 2 * 2
+    + nthDigit v 3 * 3
+    + nthDigit v 4 * 4
+    + nthDigit v 5 * 5
+    + nthDigit v 6 * 6
+    + nthDigit v 7 * 7
+
+-- "the remainder by 11 equals the eighth digit"
 abbrev pub checks : List ℕ → Bool
-checks v = eqb (weigh 1 (take 7 v) % 11) (getD v 7 0 - 48)
+checks v = eqb (weightedSum v % 11) (nthDigit v 8)
 
 -- "padded on the left to eight"
 abbrev pub padded : List ℕ → List ℕ
