@@ -1,16 +1,16 @@
 #!/usr/bin/env python3
 """Chooses the vectors that the repository carries, and writes them in a form that can be read.
 
-Usage: make.py BASE.TSV REQUEST-01.TSV REQUEST-02.TSV SHEETS.TSV INDEX.TSV
+Usage: make.py BASE.TSV REQUEST-01.TSV REQUEST-02.TSV REQUEST-03.TSV SHEETS.TSV INDEX.TSV
 
-The first two have one case a line: kind, pages, the output of planlist, and the fresh pages or a refusal, which is
-refused:number:page:place in the base and !number.page.place in a request; bytes in hexadecimal digits, pages with
-commas between them, "-" for an empty page. The base is document 01 alone, the request has what it changes and, as kind
-"base", more of document 01. The later file rules: a case of the base that the request may answer otherwise is left out.
-Those of request 2 are: kind, pages, the index as built and the index asked with (pairs number:row with commas between
-them, "-" for none), a number, k, what is answered of the number, and of its k-th row.
+The base and requests 1 and 3 have one case a line: kind, pages, the output of planlist, and the fresh pages or a
+refusal, which is refused:number:page:place in the base and !number.page.place in a request; bytes in hexadecimal
+digits, pages with commas between them, "-" for an empty page. The base is document 01 alone, a request has what it asks
+for and, as kind "base", more of document 01. The later file rules: a case of the base that request 1 may answer
+otherwise is left out. Those of request 2 are: kind, pages, the index as built and the index asked with (pairs
+number:row with commas between them, "-" for none), a number, k, what is answered of the number, and of its k-th row.
 
-The vectors, SHEETS.TSV of the first two and INDEX.TSV of the third, have the same columns and the base's refusals, with
+The vectors, INDEX.TSV of request 2 and SHEETS.TSV of the others, have the same columns and the base's refusals, with
 printable ASCII bytes of a page as themselves and every other byte, and % and comma, as %XX; a page without bytes is the
 empty text.
 """
@@ -102,10 +102,11 @@ def put(path, columns, lines):
 
 
 def main():
-    """Reads the three files and writes the vectors."""
-    base, birthdays, index, sheets_vectors, index_vectors = sys.argv[1:]
+    """Reads the four files and writes the vectors."""
+    base, birthdays, index, packages, sheets_vectors, index_vectors = sys.argv[1:]
     sheets = chosen([case for case in cases_of(base) if not overruled(case)], sheets_answer, *BASE_SHARE)
-    sheets += chosen([case for case in cases_of(birthdays) if case[0] != "base"], sheets_answer, *REQUEST_SHARE)
+    for request in (birthdays, packages):
+        sheets += chosen([case for case in cases_of(request) if case[0] != "base"], sheets_answer, *REQUEST_SHARE)
     put(sheets_vectors, "planlist's output\tfresh pages, comma between, or refused:number:page:place", sheets)
     columns = "index as built, number:row, comma between\tindex asked with\tnumber\tk\tfirst row,count or absent"
     columns += "\tk-th row, absent or none, or refused:number:page:place"

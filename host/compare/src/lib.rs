@@ -4,6 +4,7 @@ pub mod cells;
 pub mod collecting;
 pub mod indexing;
 pub mod numbers;
+pub mod packages;
 pub mod printing;
 pub mod rounds;
 pub mod trial;

@@ -203,6 +203,16 @@ fn rule(
     if value.is_empty() {
         return;
     }
+    if agreed(element, field, &value).is_none() {
+        found.push(name(&format!(
+            "{}.{} {value:?}",
+            element.letters, field.letter
+        )));
+    }
+}
+
+/// Whether a value keeps its field, 0 no, 1 yes, 2 it is a dose of exactly 0; nothing where the proved code and the second program differ.
+pub fn agreed(element: &Element, field: &Field, value: &[u8]) -> Option<u8> {
     let at = element
         .fields
         .iter()
@@ -210,14 +220,9 @@ fn rule(
     let id = first(element) + at.expect("the field is one of its element's");
     let expected = match field.rule {
         Rule::Dose if value == b"0" => 2,
-        _ => u8::from(second::rules::keeps(field, &value)),
+        _ => u8::from(second::rules::keeps(field, value)),
     };
-    if crate::keeps(id, &value) != expected {
-        found.push(name(&format!(
-            "{}.{} {value:?}",
-            element.letters, field.letter
-        )));
-    }
+    (crate::keeps(id, value) == expected).then_some(expected)
 }
 
 /// The room that document 01 names: 256 records of 48 numbers, and 12,600 bytes of text.

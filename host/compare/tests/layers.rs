@@ -1,11 +1,23 @@
 //! The proved layers against the second program, on a bounded number of seeds; the binary `compare` runs more.
 
+use compare::indexing::Tally;
+use compare::packages;
 use compare::rounds::{differences, set, tables};
 use inputs::vectors::{carried, named};
 
 #[test]
 fn bytes_elements_and_fields_are_what_the_second_program_says() {
     assert_eq!(tables(), Vec::<String>::new());
+}
+
+#[test]
+fn package_numbers_are_what_the_second_program_says_in_a_sample_of_all_numbers() {
+    let sample = (0..100_000).chain((0..packages::BEYOND + 10_000).step_by(997));
+    let mut tally = Tally::new();
+    let found = sample.flat_map(|number| packages::differences(number, &mut tally));
+    assert_eq!(found.take(10).collect::<Vec<_>>(), Vec::<String>::new());
+    assert!(tally["kept"] > 40_000, "{tally:?}");
+    assert!(tally["spellings"] > 9 * tally["kept"], "{tally:?}");
 }
 
 #[test]

@@ -6,7 +6,7 @@ use second::{find, index_of, lay, planfind, planlist, read, write, Pair, Refusal
 use std::collections::BTreeSet;
 
 /// The kinds of case that the vectors have.
-const KINDS: [&str; 15] = [
+const KINDS: [&str; 16] = [
     "bad_byte",
     "birth",
     "bytes",
@@ -16,6 +16,7 @@ const KINDS: [&str; 15] = [
     "many",
     "markup",
     "missing",
+    "pzn",
     "rows",
     "size",
     "structure",
@@ -148,7 +149,7 @@ fn every_carried_vector_is_answered_as_written() {
 #[test]
 fn carried_vectors_have_every_kind_and_every_refusal() {
     let vectors = carried();
-    assert_eq!(vectors.len(), 2_000);
+    assert_eq!(vectors.len(), 2_400);
     let kinds: BTreeSet<&str> = vectors.iter().map(|vector| vector.kind.as_str()).collect();
     assert_eq!(kinds, KINDS.into());
     let refused = vectors
@@ -167,18 +168,16 @@ fn carried_vectors_have_every_kind_and_every_refusal() {
 }
 
 #[test]
-fn carried_birth_dates_are_read_refused_and_told_apart() {
+fn carried_birth_dates_and_package_numbers_are_read_and_refused() {
     let vectors = carried();
-    let births = vectors.iter().filter(|vector| vector.kind == "birth");
-    let answers: BTreeSet<usize> = births
-        .map(|vector| {
-            vector
-                .fresh
-                .as_ref()
-                .map_or_else(|refusal| refusal[0], |_| 0)
-        })
-        .collect();
-    assert_eq!(answers, [0, 7, 9].into());
+    let number = |vector: &Vector| vector.fresh.as_ref().err().map_or(0, |refusal| refusal[0]);
+    let answers = |kind: &str| -> BTreeSet<usize> {
+        let cases = vectors.iter().filter(|vector| vector.kind == kind);
+        cases.map(number).collect()
+    };
+    // Sheets that differ in their birth date are told apart by 9.
+    assert_eq!(answers("birth"), [0, 7, 9].into());
+    assert_eq!(answers("pzn"), [0, 7].into());
 }
 
 #[test]

@@ -6,10 +6,11 @@
 //!   index      indexes of rows and of sheets, built and asked
 //!   cells      cells of plans in numbers
 //!   printed    what planlist, planfresh and planfind print
+//!   packages   package numbers: the numbers from FIRST on, for seeds
 
 use std::collections::BTreeMap;
 
-use compare::{cells, collecting, indexing, printing, rounds, writing};
+use compare::{cells, collecting, indexing, packages, printing, rounds, writing};
 
 /// What is counted beside the seeds: how often each thing happened.
 type Tally = BTreeMap<String, u64>;
@@ -70,10 +71,11 @@ fn main() {
         Some("index") => Some(indexing::differences),
         Some("cells") => Some(cells),
         Some("printed") => Some(printed),
+        Some("packages") => Some(packages::differences),
         Some(_) => None,
     };
     let (Some(first), Some(count), Some(part)) = (number(0), number(1), part) else {
-        eprintln!("usage: compare FIRST COUNT [layers|fresh|plans|collector|index|cells|printed]");
+        eprintln!("usage: compare FIRST COUNT [layers|fresh|plans|collector|index|cells|printed|packages]");
         std::process::exit(2);
     };
     println!("seeds {first} to {}", first + count - 1);
