@@ -6,7 +6,7 @@
 //!   index      indexes of rows and of sheets, built and asked
 //!   cells      cells of plans in numbers
 //!   printed    what planlist, planfresh and planfind print
-//!   packages   package numbers: the numbers from FIRST on, for seeds
+//!   packages   package numbers; here FIRST and COUNT are of the numbers themselves
 
 use std::collections::BTreeMap;
 
@@ -78,7 +78,7 @@ fn main() {
         eprintln!("usage: compare FIRST COUNT [layers|fresh|plans|collector|index|cells|printed|packages]");
         std::process::exit(2);
     };
-    println!("seeds {first} to {}", first + count - 1);
+    println!("from {first} to {}", first + count - 1);
     let mut tally = Tally::new();
     let mut failed = u64::from(!rounds::tables().is_empty());
     for seed in first..first + count {
