@@ -158,7 +158,7 @@ fn values_may_lie_anywhere_in_the_text_and_share_bytes() {
 /// A change of the numbers, and the place of the refusal 13 it brings.
 type Change = (&'static str, usize, fn(&mut Numbers, usize));
 
-const CHANGES: [Change; 17] = [
+const CHANGES: [Change; 18] = [
     ("head value ends behind the text", 0, |n, end| {
         n.head.parts[1][0] = Span {
             start: end,
@@ -224,6 +224,10 @@ const CHANGES: [Change; 17] = [
         ]
     }),
     ("wrong check digit", 2, |n, _| n.rows[1].package += 1),
+    // Its first eight digits are a package number.
+    ("package number of nine digits", 2, |n, _| {
+        n.rows[1].package = 110_845_080
+    }),
     ("package number as a value", 2, |n, _| {
         n.rows[1].parts[1][0] = Span {
             start: 0,
