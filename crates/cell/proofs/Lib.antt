@@ -2,6 +2,7 @@
 pub mod Values
 pub mod Told
 pub mod Placed
+pub mod Cuts
 pub mod Shows
 pub mod Promises
 pub mod Plans

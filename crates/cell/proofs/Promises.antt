@@ -5,19 +5,21 @@ use mathlib.Core.Path.{_≡_, refl, sym, ap, subst, _∙_}
 use mathlib.Core.Logic.{_↔_}
 use mathlib.Core.Bool.{Bool, true, false, _&&_, _||_}
 use mathlib.Core.List.{List, [], _∷_}
-use mathlib.Core.Option.{Option, some}
-use Prim.Native.Nat.{ℕ, zero, suc, _+_, _-_, _*_, _≤_}
+use mathlib.Core.Option.{Option, none, some}
+use Prim.Native.Nat.{ℕ, zero, suc, _+_, _-_, _*_, _≤_, _<_}
 use native.Mathlib.Omega.{arith}
-use lib.Dec.{eqb}
+use lib.Dec.{eqb, leb}
 use lib.ListN.{length, take, drop, getD, length-take, length-drop}
+use borrow.Author.Tests.{eqb-false}
 use mir.Val.{Val}
 use denote.Slice.{sliceVal, slice-vals}
 use Rattle.paper.specs.Lists.{if, isEmpty}
 use Rattle.paper.specs.Fields.{M}
 use Rattle.paper.specs.Plan.{Row}
-use Rattle.paper.specs.Cells.{CellField, Cell, cell, noCell, cellIn}
+use Rattle.paper.specs.Cells.{CellField, Cell, cell, noCell, shownOf, cellIn}
 use Rattle.paper.proofs.Small.{no, unequal}
-use Rattle.paper.proofs.CellLaws.{Limit, of-name, of-substance, of-strength, of-form, in-morning, at-midday, in-evening, at-night, DoseCell, timed-dose, free-dose, RowAt, Indexed, own, is-cell, whole-text, cut-text, no-catalogue}
+use Rattle.paper.proofs.CellLaws as CellLaws
+use Rattle.paper.proofs.CellLaws.{Limit, limit-roomy, of-name, of-substance, of-strength, of-form, Sort, by-limit, by-dose, sort, in-morning, at-midday, in-evening, at-night, DoseCell, timed-dose, free-dose, RowAt, row-one, Indexed, own, Begun, Cut, is-cell, whole-again, begun-part, whole-text, begins-some, cut-text, flagged, no-catalogue, never-cut}
 use Rattle.plan.specs.Numbers.{recordAt, spanIn, kindShown, absent}
 use Rattle.cell.specs.declared.Cell as Found
 use Rattle.cell.specs.declared.answer.Shown as Told
@@ -26,11 +28,11 @@ use Rattle.cell.specs.declared.answer.Source.the-variants.{Plan, Catalog
 use Rattle.cell.specs.declared.answer.Answer.{Answer}
 use Rattle.cell.specs.declared.answer.Answer.the-variants.{Shown, NoCell}
 use Rattle.cell.specs.Numbered.{fieldOf, rowThere, rowFor, rowsFor, ownSpan, inRange, cellFor, cellAt}
-use Rattle.cell.specs.Answers.{numbersOf, sourceNumber, Values, valuesOf, buffer, cellTold, isDose, placeFor, valuesAs, valuesAt, Lent, Slice, sliceOf, part, textIn}
-use Rattle.cell.specs.Found.{shownFound}
+use Rattle.cell.specs.Answers.{numbersOf, sourceNumber, Values, valuesOf, buffer, textOf, cellTold, isDose, placeFor, valuesAs, valuesAt, Lent, Slice, sliceOf, part, textIn}
+use Rattle.cell.specs.Found.{wholeShown, begunShown, cutShown, shownFound}
 use Rattle.cell.proofs.Values.{stands, medication, named, formed, substances, row-numbered}
 use Rattle.cell.proofs.Told.{for-medication, for-kind, there}
-use Rattle.cell.proofs.Shows.{no-cell, shown-as, it, by-found, inside}
+use Rattle.cell.proofs.Shows.{Shows, no-cell, shown-as, empty-found, it, by-found, inside}
 
 -- ---- one answer
 
@@ -41,7 +43,7 @@ pub record Promised (rows : List ℕ) (count : ℕ) (t k : Lent) (row n i : ℕ)
 
 -- the answer with those values
 abbrev answerWith : Values → Answer
-answerWith v = if (eqb (v .refusal .number) 0) (Shown (record { source = v .source; at = v .at; len = v .len; more = v .more; zero = v .zero })) NoCell
+answerWith v = if (eqb (v .refusal .number) 0) (Shown (record { source = v .source; at = v .at; len = v .len; more = v .more; omitted = v .omitted; zero = v .zero })) NoCell
 
 answer-with : (a : Answer) → answerWith (valuesOf a) ≡ a
 answer-with (Shown s) = refl
@@ -71,11 +73,6 @@ source-once x r s e f = e ∙ sym f
 
 -- ---- document 01's cell
 
--- the text of a cell
-abbrev pub textOf : Cell → List ℕ
-textOf (cell t d m) = t
-textOf noCell = []
-
 -- the bytes of the part that an answer tells are those of the cell that it tells
 told-bytes : (t k : Lent) (a : Answer) → textIn t k (valuesOf a) .bytes ≡ textOf (cellTold (t .now) (k .now) a)
 told-bytes t k NoCell = refl
@@ -101,8 +98,8 @@ module _ (rows : List ℕ) (count : ℕ) (t k : Lent) (row n i : ℕ) (a : Answe
       refusal : c .refused ≡ true → (b : Answer) → valuesOf b ≡ valuesOf NoCell → asked ≡ cellTold (t .now) (k .now) b
       refusal x b e = no-cell rows count (t .now) (k .now) row n i c refl x ∙ ap (cellTold (t .now) (k .now)) (sym (same-answer b NoCell e))
 
-      cells : c .refused ≡ false → (b : Answer) → valuesOf b ≡ valuesOf (Shown (shownFound (length (k .now)) c)) → asked ≡ cellTold (t .now) (k .now) b
-      cells x b e = shown-as rows count (t .now) (k .now) row n i c refl x .tells ∙ ap (cellTold (t .now) (k .now)) (sym (same-answer b (Shown (shownFound (length (k .now)) c)) e))
+      cells : c .refused ≡ false → (b : Answer) → valuesOf b ≡ valuesOf (Shown (shownFound (t .now) (k .now) c)) → asked ≡ cellTold (t .now) (k .now) b
+      cells x b e = shown-as rows count (t .now) (k .now) row n i c refl x .tells ∙ ap (cellTold (t .now) (k .now)) (sym (same-answer b (Shown (shownFound (t .now) (k .now) c)) e))
 
   -- it is refusal 1 exactly where there is none
   pub refused-exactly : (numbersOf a .number ≡ 1) ↔ (asked ≡ noCell)
@@ -126,7 +123,7 @@ module _ (rows : List ℕ) (count : ℕ) (t k : Lent) (row n i : ℕ) (a : Answe
 
 -- the place of a cell that is shown
 as-shown : (q : Source × ℕ) (x : Cell) (s : Told.Shown) → valuesOf (Shown s) ≡ valuesAs q x → (s .source, s .at) ≡ q
-as-shown q (cell t d m) s e = ap (λ (v : Values). (v .source, v .at)) e
+as-shown q (cell t d o m) s e = ap (λ (v : Values). (v .source, v .at)) e
 as-shown q noCell s e = let z = ap (λ (v : Values). v .refusal .number) e in absurd (omega (arith, z))
 
 -- what a place says of its source, by whether the value is absent, the field a dose and the catalogue empty
@@ -144,19 +141,12 @@ own-value t l f n of-form x = ap isEmpty (formed t l) ∙ stands t (spanIn l 2)
 own-value t l f n (of-substance i) x = ap isEmpty (substances t l i (x .0) (x .1) .0) ∙ stands t (spanIn l (11 + 2 * i))
 own-value t l f n (of-strength i) x = ap isEmpty (substances t l i (x .0) (x .1) .1) ∙ stands t (spanIn l (12 + 2 * i))
 
--- a row's number names one row
-row-one : (rs : List Row) (n : ℕ) (r q : Row) → RowAt rs n r → RowAt rs n q → r ≡ q
-row-one [] n r q a b = absurd a
-row-one (x ∷ rs) zero r q a b = absurd a
-row-one (x ∷ rs) (suc zero) r q a b = sym a ∙ b
-row-one (x ∷ rs) (suc (suc n)) r q a b = row-one rs (suc n) r q a b
-
 -- a cell that is not refused is document 01's, of the rows that the numbers stand for, and its row is there
-pub of-rows : (rows : List ℕ) (count : ℕ) (t k : List ℕ) (row : ℕ) (f : CellField) (x : List ℕ) (d m : Bool) → cellFor rows count t k row (some f) ≡ cell x d m
-    → (rowThere rows count row ≡ true) × (cellIn (rowsFor t count rows) row f k ≡ cell x d m)
-of-rows rows count t k row f x d m = at (rowThere rows count row) (inRange t (recordAt rows (row - 1)) f)
+pub of-rows : (rows : List ℕ) (count : ℕ) (t k : List ℕ) (row : ℕ) (f : CellField) (x : List ℕ) (d : Bool) (o : ℕ) (m : Bool) → cellFor rows count t k row (some f) ≡ cell x d o m
+    → (rowThere rows count row ≡ true) × (cellIn (rowsFor t count rows) row f k ≡ cell x d o m)
+of-rows rows count t k row f x d o m = at (rowThere rows count row) (inRange t (recordAt rows (row - 1)) f)
   where
-    at : (a b : Bool) → if (a && b) (cellIn (rowsFor t count rows) row f k) noCell ≡ cell x d m → (a ≡ true) × (cellIn (rowsFor t count rows) row f k ≡ cell x d m)
+    at : (a b : Bool) → if (a && b) (cellIn (rowsFor t count rows) row f k) noCell ≡ cell x d o m → (a ≡ true) × (cellIn (rowsFor t count rows) row f k ≡ cell x d o m)
     at true true e = (refl, e)
     at true false e = unequal (cc)
     at false b e = unequal (cc)
@@ -177,12 +167,12 @@ module _ (rows : List ℕ) (count : ℕ) (t k : Lent) (row n i : ℕ) (s : Told.
   told-long = let h = part-of rows count t k row n i (Shown s) r p .1 in simp (length-take, length-drop) (omega (arith, h))
 
   -- the cell is that of the field
-  field-cell : cellFor rows count (t .now) (k .now) row (some f) ≡ cell told-text (s .more) (s .zero)
+  field-cell : cellFor rows count (t .now) (k .now) row (some f) ≡ cell told-text (s .more) (s .omitted) (s .zero)
   unfolding cellAt
   field-cell = ap (cellFor rows count (t .now) (k .now) row) (sym e) ∙ cell-answered rows count t k row n i (Shown s) r p
 
-  shown-cell : (rowThere rows count row ≡ true) × (cellIn rows-for row f (k .now) ≡ cell told-text (s .more) (s .zero))
-  shown-cell = of-rows rows count (t .now) (k .now) row f told-text (s .more) (s .zero) field-cell
+  shown-cell : (rowThere rows count row ≡ true) × (cellIn rows-for row f (k .now) ≡ cell told-text (s .more) (s .omitted) (s .zero))
+  shown-cell = of-rows rows count (t .now) (k .now) row f told-text (s .more) (s .omitted) (s .zero) field-cell
 
   place-is : (s .source, s .at) ≡ placeFor record-at (some f) (k .now)
   unfolding valuesAt
@@ -196,7 +186,7 @@ module _ (rows : List ℕ) (count : ℕ) (t k : Lent) (row n i : ℕ) (s : Told.
   pub own-first : (m : ℕ) (q : Row) → Limit f m → RowAt rows-for row q → (s .source ≡ Plan) ↔ (isEmpty (own f q) ≡ false)
   own-first m q h a =
       let (y, c) = shown-cell in
-      let (z, b, medic, x) = is-cell rows-for row f (k .now) .0 (told-text, s .more, s .zero, c) in
+      let (z, b, medic, x) = is-cell rows-for row f (k .now) .0 (told-text, s .more, s .omitted, s .zero, c) in
       let l = there rows count row y in
       let one : z ≡ rowFor (t .now) record-at = row-one rows-for row z (rowFor (t .now) record-at) b (row-numbered (rowFor (t .now)) (rowsFor (t .now)) (λ n rs. refl) count rows row (l .0) (l .1)) in
       let two : q ≡ rowFor (t .now) record-at = row-one rows-for row q z a b ∙ one in
@@ -216,18 +206,39 @@ module _ (rows : List ℕ) (count : ℕ) (t k : Lent) (row n i : ℕ) (s : Told.
       at f (timed-dose at-night) z = no z
       at f free-dose z = no z
 
-  -- ---- limits
+  -- ---- limits, and what is left out
 
-  -- a cell is at most its limit long, and three bytes less where "..." follows
+  -- what the cell shows of which text: a part by document 02's rule
+  pub cut-of : (m : ℕ) → Limit f m → Cut rows-for row m f (k .now) told-text (s .more) (s .omitted) (s .zero)
+  cut-of m l = CellLaws.part-of rows-for row m f (k .now) told-text (s .more) (s .omitted) (s .zero) l (shown-cell .1)
+
+  -- the whole text: the plan's own value, else the catalogue's
+  abbrev whole-of : (m : ℕ) → Limit f m → List ℕ
+  whole-of m l = cut-of m l .text
+
+  -- what is shown and what is left out are the whole
+  pub nothing-lost : (m : ℕ) (l : Limit f m) → s .len + s .omitted ≡ length (whole-of m l)
+  nothing-lost m l = sym (ap (λ (x : ℕ). x + s .omitted) told-long) ∙ whole-again m (whole-of m l) told-text (s .more) (s .omitted) (cut-of m l .part)
+
+  -- "..." follows exactly where something is left out
+  pub flag-exactly : (s .more ≡ true) ↔ (1 ≤ s .omitted)
+  flag-exactly = flagged rows-for row f (k .now) told-text (s .more) (s .omitted) (s .zero) (shown-cell .1)
+
+  -- of a dose nothing is
+  pub dose-whole : DoseCell f → s .omitted ≡ 0
+  dose-whole d = never-cut rows-for row f (k .now) told-text (s .more) (s .omitted) (s .zero) d (shown-cell .1) .1
+
+  -- without "..." a cell is at most its limit long
   pub within-limit : (m : ℕ) → Limit f m → s .more ≡ false → s .len ≤ m
   within-limit m l u =
-      let c : cellIn rows-for row f (k .now) ≡ cell told-text false (s .zero) = shown-cell .1 ∙ ap (λ (b : Bool). cell told-text b (s .zero)) u in
-      subst (λ (x : ℕ). x ≤ m) told-long (whole-text rows-for row m f (k .now) told-text (s .zero) l c)
+      let c : cellIn rows-for row f (k .now) ≡ cell told-text false (s .omitted) (s .zero) = shown-cell .1 ∙ ap (λ (b : Bool). cell told-text b (s .omitted) (s .zero)) u in
+      subst (λ (x : ℕ). x ≤ m) told-long (whole-text rows-for row m f (k .now) told-text (s .omitted) (s .zero) l c)
 
-  pub cut-short : (m : ℕ) → Limit f m → s .more ≡ true → s .len ≡ m - 3
+  -- with "..." its whole text is longer than the limit, and it is as long as the rule says
+  pub cut-short : (m : ℕ) (l : Limit f m) → s .more ≡ true → (m < length (whole-of m l)) × Begun m (whole-of m l) (s .len)
   cut-short m l u =
-      let c : cellIn rows-for row f (k .now) ≡ cell told-text true (s .zero) = shown-cell .1 ∙ ap (λ (b : Bool). cell told-text b (s .zero)) u in
-      sym told-long ∙ cut-text rows-for row m f (k .now) told-text (s .zero) l c
+      let (h, b) = begun-part m (whole-of m l) told-text (s .more) (s .omitted) (cut-of m l .part) u in
+      (h, subst (Begun m (whole-of m l)) told-long b)
 
 -- a dose cell's answer does not depend on the catalogue
 pub dose-alone : (rows : List ℕ) (count : ℕ) (t k k′ : List ℕ) (row n i : ℕ) (f : CellField) → fieldOf n i ≡ some f → DoseCell f → valuesAt rows count t k row n i ≡ valuesAt rows count t k′ row n i
@@ -243,3 +254,98 @@ dose-alone rows count t k k′ row n i f e d = rw e (at f d ∙ ap (valuesAs (pl
     at g (timed-dose in-evening) = refl
     at g (timed-dose at-night) = refl
     at g free-dose = refl
+
+-- ---- a text that is shown is not empty
+
+-- the flag of a cell
+abbrev flagOf : Cell → Bool
+flagOf (cell t d o m) = d
+flagOf noCell = false
+
+-- nor is one that is cut
+cut-some : (rs : List Row) (j : ℕ) (f : CellField) (k t : List ℕ) (o : ℕ) (m : Bool) → cellIn rs j f k ≡ cell t true o m → 1 ≤ length t
+cut-some rs j f k t o m e = at (sort f)
+  where
+    at : Sort f → 1 ≤ length t
+    at (by-limit n l) = let v = CellLaws.part-of rs j n f k t true o m l e .text in begins-some n v (length t) (limit-roomy f n l) (cut-text rs j n f k t o m l e .1)
+    at (by-dose d) = no (never-cut rs j f k t true o m d e .0)
+
+-- a text that is not cut, from the one or the other buffer
+some-cut : (s : Source) (w : List ℕ) (a n limit : ℕ) → 1 ≤ n → cutShown s w a n limit .more ≡ false → 1 ≤ cutShown s w a n limit .len
+some-cut s w a n limit h = at (leb n limit)
+  where
+    at : (b : Bool) → (if b (wholeShown s a n false) (begunShown s a n (shownOf limit (drop a w)))) .more ≡ false → 1 ≤ (if b (wholeShown s a n false) (begunShown s a n (shownOf limit (drop a w)))) .len
+    at true e = h
+    at false e = no e
+
+some-found : (t k : List ℕ) (c : Found.Cell) → shownFound t k c .more ≡ false → (shownFound t k c .source ≡ Neither → ⊥) → 1 ≤ shownFound t k c .len
+some-found t k c = at (eqb (c .limit) 0) (eqb (c .own .len) 0) refl (eqb (length k) 0) refl
+  where
+    -- what is shown, by whether the cell is a dose, its value absent and the catalogue empty
+    by : Bool → Bool → Bool → Told.Shown
+    by b z y = if b (if z (wholeShown Neither 0 0 (c .zero)) (wholeShown Plan (c .own .at) (c .own .len) (c .zero)))
+        (if z (if y (wholeShown Neither 0 0 false) (cutShown Catalogue k 0 (length k) (c .limit))) (cutShown Plan t (c .own .at) (c .own .len) (c .limit)))
+
+    some : (n : ℕ) → eqb n 0 ≡ false → 1 ≤ n
+    some n e = let h = eqb-false n 0 e in omega arith
+
+    at : (b z : Bool) → eqb (c .own .len) 0 ≡ z → (y : Bool) → eqb (length k) 0 ≡ y → by b z y .more ≡ false → (by b z y .source ≡ Neither → ⊥) → 1 ≤ by b z y .len
+    at true true u y v e h = absurd (h refl)
+    at true false u y v e h = some (c .own .len) u
+    at false true u true v e h = absurd (h refl)
+    at false true u false v e h = some-cut Catalogue k 0 (length k) (c .limit) (some (length k) v) e
+    at false false u y v e h = some-cut Plan t (c .own .at) (c .own .len) (c .limit) (some (c .own .len) u) e
+
+module _ (rows : List ℕ) (count : ℕ) (t k : List ℕ) (row n i : ℕ) (x : List ℕ) (d : Bool) (o : ℕ) (m : Bool) (e : cellAt rows count t k row n i ≡ cell x d o m) where
+  -- what is shown
+  abbrev shown-here : Told.Shown
+  shown-here = shownFound t k (it rows count t k row n i)
+
+  not-refused : it rows count t k row n i .refused ≡ false
+  not-refused = at (it rows count t k row n i .refused) refl
+    where
+      at : (b : Bool) → it rows count t k row n i .refused ≡ b → b ≡ false
+      at true r = let z : noCell ≡ cell x d o m = sym (no-cell rows count t k row n i (it rows count t k row n i) refl r) ∙ e in unequal (cc)
+      at false r = refl
+
+  shows-it : Shows t k (cellAt rows count t k row n i) (placeFor (recordAt rows (row - 1)) (fieldOf n i) k) shown-here
+  shows-it = shown-as rows count t k row n i (it rows count t k row n i) refl not-refused
+
+  -- the cell is what it tells
+  told-is : cell x d o m ≡ cellTold t k (Shown shown-here)
+  told-is = sym e ∙ shows-it .tells
+
+  told-length : shown-here .len ≡ length x
+  told-length =
+      let s = shown-here in
+      let same : x ≡ take (s .len) (drop (s .at) (buffer (s .source) t k)) = ap textOf told-is in
+      let h = shows-it .inside in
+      rw same (simp (length-take, length-drop) (omega (arith, h)))
+
+  -- a text that comes from a buffer is not empty
+  some-text : (shown-here .source ≡ Neither → ⊥) → 1 ≤ length x
+  unfolding cellAt
+  some-text h = at d refl
+    where
+      by : (f : Option CellField) → cellFor rows count t k row f ≡ cell x true o m → 1 ≤ length x
+      by none q = unequal (cc)
+      by (some f) q = cut-some (rowsFor t count rows) row f k x o m (of-rows rows count t k row f x true o m q .1)
+
+      at : (b : Bool) → d ≡ b → 1 ≤ length x
+      at true q = by (fieldOf n i) (e ∙ ap (λ (b : Bool). cell x b o m) q)
+      at false q = let whole : shown-here .more ≡ false = sym (ap flagOf told-is) ∙ q in let h = some-found t k (it rows count t k row n i) whole h in omega (arith, told-length)
+
+  -- it comes from neither buffer exactly where it is empty
+  pub from-neither : (placeFor (recordAt rows (row - 1)) (fieldOf n i) k .0 ≡ Neither) ↔ (x ≡ [])
+  from-neither =
+      let source : placeFor (recordAt rows (row - 1)) (fieldOf n i) k .0 ≡ shown-here .source = ap (λ (p : Source × ℕ). p .0) (shows-it .place) in
+      (λ q. nil x (sym told-length ∙ empty-found t k (it rows count t k row n i) (sym source ∙ q) .1), λ q. source ∙ at (shown-here .source) (λ z. some-text z) q)
+    where
+      nil : (v : List ℕ) → length v ≡ 0 → v ≡ []
+      nil [] q = refl
+      nil (c ∷ v) q = absurd (omega arith)
+
+      at : (s : Source) → ((s ≡ Neither → ⊥) → 1 ≤ length x) → x ≡ [] → s ≡ Neither
+      at Neither h q = refl
+      at Plan h q = absurd (omega (arith, ap length q, h (λ z. unequal (cc))))
+      at Catalogue h q = absurd (omega (arith, ap length q, h (λ z. unequal (cc))))

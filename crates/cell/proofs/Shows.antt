@@ -13,8 +13,9 @@ use lib.Seq.{take-length, take-take}
 use borrow.Author.Tests.{ne-eqb, eqb-true, leb-true, leb-false, le-leb}
 use Rattle.paper.specs.Lists.{if, isEmpty}
 use Rattle.paper.specs.Layout.{shown}
-use Rattle.paper.specs.Cells.{CellField, name, form, morning, midday, evening, night, freeDose, substance, strength, Cell, cell, noCell, cutTo, ownOr, ofThree}
+use Rattle.paper.specs.Cells.{CellField, name, form, morning, midday, evening, night, freeDose, substance, strength, Cell, cell, noCell, shownOf, cutTo, ownOr, ofThree}
 use Rattle.paper.proofs.Small.{no, unequal}
+use Rattle.paper.proofs.CellLaws.{begins, begins-near}
 use Rattle.plan.specs.Numbers.{recordAt, within, paperSpan}
 use Rattle.plan.specs.Records.{noSpan, rowIn}
 use Rattle.plan.specs.declared.Span as Code
@@ -30,9 +31,10 @@ use Rattle.cell.specs.declared.answer.Source.the-variants.{Plan, Catalog
 use Rattle.cell.specs.declared.answer.Answer.the-variants.{Shown, NoCell}
 use Rattle.cell.specs.Numbered.{fieldOf, rowThere, cellAt}
 use Rattle.cell.specs.Answers.{Values, valuesOf, buffer, cellTold, placeFor, valuesAs, valuesAt, Lent, Slice, part, textIn}
-use Rattle.cell.specs.Found.{noneFound, textFound, timeFound, freeFound, threeFound, fieldFound, held, isMedication, rowFound, found, Roomy, wholeShown, cutShown, shownFound}
+use Rattle.cell.specs.Found.{noneFound, textFound, timeFound, freeFound, threeFound, fieldFound, held, isMedication, rowFound, found, Roomy, wholeShown, begunShown, cutShown, shownFound}
 use Rattle.cell.proofs.Told.{toldShown, told, cell-told}
 use Rattle.cell.proofs.Placed.{placeFound, there-found}
+use Rattle.cell.proofs.Cuts.{shown-of-part}
 
 -- ---- what holds of every cell that is found
 
@@ -104,18 +106,28 @@ values-are t k x p s S =
     rw (S .tells, S .place, long)
 
 -- n bytes of a buffer, up to a limit
-cut-shows : (t k : List ℕ) (s : Source) (a n limit : ℕ) (v : List ℕ) → v ≡ take n (drop a (buffer s t k)) → a + n ≤ length (buffer s t k) → Shows t k (cutTo limit v) (s, a) (cutShown s a n limit)
+cut-shows : (t k : List ℕ) (s : Source) (a n limit : ℕ) (v : List ℕ) → v ≡ take n (drop a (buffer s t k)) → a + n ≤ length (buffer s t k)
+    → Shows t k (cutTo limit v) (s, a) (cutShown s (buffer s t k) a n limit)
 cut-shows t k s a n limit v e h = rw long (at (leb n limit) refl)
   where
+    b : List ℕ
+    b = drop a (buffer s t k)
+
     long : length v ≡ n
     long = rw e (simp (length-take, length-drop) (omega (arith, h)))
 
-    at : (b : Bool) → leb n limit ≡ b
-        → Shows t k (if b (cell v false false) (cell (take (limit - 3) v) true false)) (s, a) (if b (wholeShown s a n false) (record { source = s; at = a; len = limit - 3; more = true; zero = false }))
-    at true q = record { tells = ap (λ (w : List ℕ). cell w false false) e; inside = h; place = refl }
+    at : (x : Bool) → leb n limit ≡ x
+        → Shows t k (if x (cell v false 0 false) (cell (take (shownOf limit v) v) true (n - shownOf limit v) false)) (s, a) (if x (wholeShown s a n false) (begunShown s a n (shownOf limit b)))
+    at true q = record { tells = ap (λ (w : List ℕ). cell w false 0 false) e; inside = h; place = refl }
     at false q =
         let l = leb-false n limit q in
-        record { tells = ap (λ (w : List ℕ). cell w true false) (ap (take (limit - 3)) e ∙ take-take (limit - 3) n (drop a (buffer s t k)) (omega arith)); inside = omega arith; place = refl }
+        let i : shownOf limit v ≡ shownOf limit b = ap (shownOf limit) e ∙ shown-of-part limit n b (omega arith) in
+        let near = begins-near limit b (shownOf limit b) (begins limit b) .0 in
+        record {
+          tells = rw i (ap (λ (w : List ℕ). cell w true (n - shownOf limit b) false) (ap (take (shownOf limit b)) e ∙ take-take (shownOf limit b) n b (omega arith)));
+          inside = omega arith;
+          place = refl;
+        }
 
 -- a value that is there is shown, and not the catalogue's text
 own-there : (v k : List ℕ) → isEmpty v ≡ false → ownOr v k ≡ v
@@ -128,7 +140,7 @@ module _ (t : List ℕ) (c : Found.Cell) (w : within (length t) (paperSpan (c .o
   value = shown t (paperSpan (c .own))
 
   module _ (h : eqb (c .own .len) 0 ≡ false) where
-    lies : c .own .at + c .own .len ≤ length t
+    pub lies : c .own .at + c .own .len ≤ length t
     lies = leb-true (c .own .at + c .own .len) (length t) (rw h at w)
 
     there : isEmpty value ≡ false
@@ -139,14 +151,14 @@ module _ (t : List ℕ) (c : Found.Cell) (w : within (length t) (paperSpan (c .o
   nothing h = rw (eqb-true (c .own .len) 0 h)
 
   -- a dose is shown whole, any other text up to its limit; the catalogue's where the plan has none
-  found-shows : (k : List ℕ) → Shows t k (toldShown t k c) (placeFound k c) (shownFound (length k) c)
+  found-shows : (k : List ℕ) → Shows t k (toldShown t k c) (placeFound k c) (shownFound t k c)
   found-shows k = at (eqb (c .limit) 0) (eqb (c .own .len) 0) refl refl k
     where
       at : (b z : Bool) → eqb (c .limit) 0 ≡ b → eqb (c .own .len) 0 ≡ z → (k : List ℕ)
-          → Shows t k (if b (cell value false (c .zero)) (cutTo (c .limit) (ownOr value k))) (if z (if (b || isEmpty k) (Neither, 0) (Catalogue, 0)) (Plan, c .own .at))
+          → Shows t k (if b (cell value false 0 (c .zero)) (cutTo (c .limit) (ownOr value k))) (if z (if (b || isEmpty k) (Neither, 0) (Catalogue, 0)) (Plan, c .own .at))
           (if b (if z (wholeShown Neither 0 0 (c .zero)) (wholeShown Plan (c .own .at) (c .own .len) (c .zero)))
-          (if z (if (eqb (length k) 0) (wholeShown Neither 0 0 false) (cutShown Catalogue 0 (length k) (c .limit))) (cutShown Plan (c .own .at) (c .own .len) (c .limit))))
-      at true true x y k = record { tells = ap (λ (v : List ℕ). cell v false (c .zero)) (nothing y); inside = omega arith; place = refl }
+          (if z (if (eqb (length k) 0) (wholeShown Neither 0 0 false) (cutShown Catalogue k 0 (length k) (c .limit))) (cutShown Plan t (c .own .at) (c .own .len) (c .limit))))
+      at true true x y k = record { tells = ap (λ (v : List ℕ). cell v false 0 (c .zero)) (nothing y); inside = omega arith; place = refl }
       at true false x y k = record { tells = refl; inside = lies y; place = refl }
       at false true x y [] = record { tells = rw (nothing y, le-leb 0 (c .limit) (omega arith)); inside = omega arith; place = refl }
       at false true x y (d ∷ k) =
@@ -163,9 +175,9 @@ module _ (rows : List ℕ) (count : ℕ) (t k : List ℕ) (row n i : ℕ) (c : F
   cell-is : told t k c ≡ cellAt rows count t k row n i
   cell-is = ap (told t k) e ∙ cell-told t k rows count row n i
 
-  -- a limit leaves room
-  pub roomy : Roomy c
-  roomy = sound .0
+  -- a limit leaves room, and a value lies in the text
+  pub roomy : Roomy c × (within (length t) (paperSpan (c .own)) ≡ true)
+  roomy = sound
 
   -- a cell that is refused is document 01's refusal
   pub no-cell : c .refused ≡ true → cellAt rows count t k row n i ≡ noCell
@@ -176,7 +188,7 @@ module _ (rows : List ℕ) (count : ℕ) (t k : List ℕ) (row n i : ℕ) (c : F
   refuses r = rw (no-cell r)
 
   -- any other is shown as document 01 shows it
-  pub shown-as : c .refused ≡ false → Shows t k (cellAt rows count t k row n i) (placeFor (recordAt rows (row - 1)) (fieldOf n i) k) (shownFound (length k) c)
+  pub shown-as : c .refused ≡ false → Shows t k (cellAt rows count t k row n i) (placeFor (recordAt rows (row - 1)) (fieldOf n i) k) (shownFound t k c)
   shown-as r =
       let l = recordAt rows (row - 1) in
       let x : cellAt rows count t k row n i ≡ toldShown t k c = sym cell-is ∙ rw r in
@@ -184,9 +196,9 @@ module _ (rows : List ℕ) (count : ℕ) (t k : List ℕ) (row n i : ℕ) (c : F
       let S = found-shows t c (sound .1) k in
       record { tells = x ∙ S .tells; inside = S .inside; place = p ∙ S .place }
 
-  pub showing : c .refused ≡ false → valuesOf (Shown (shownFound (length k) c)) ≡ valuesAt rows count t k row n i
+  pub showing : c .refused ≡ false → valuesOf (Shown (shownFound t k c)) ≡ valuesAt rows count t k row n i
   unfolding valuesAt
-  showing r = values-are t k (cellAt rows count t k row n i) (placeFor (recordAt rows (row - 1)) (fieldOf n i) k) (shownFound (length k) c) (shown-as r)
+  showing r = values-are t k (cellAt rows count t k row n i) (placeFor (recordAt rows (row - 1)) (fieldOf n i) k) (shownFound t k c) (shown-as r)
 
 -- ---- any answer
 
@@ -195,27 +207,27 @@ abbrev Inside : List ℕ → List ℕ → Values → Type 0
 Inside t k v = v .at + v .len ≤ length (buffer (v .source) t k)
 
 -- with neither it is the empty beginning
-abbrev Empty : Values → Type 0
+abbrev pub Empty : Values → Type 0
 Empty v = v .source ≡ Neither → (v .at ≡ 0) × (v .len ≡ 0)
 
-empty-cut : (s : Source) (a n limit : ℕ) → (s ≡ Neither → ⊥) → Empty (valuesOf (Shown (cutShown s a n limit)))
-empty-cut s a n limit h = at (leb n limit)
+empty-cut : (s : Source) (w : List ℕ) (a n limit : ℕ) → (s ≡ Neither → ⊥) → Empty (valuesOf (Shown (cutShown s w a n limit)))
+empty-cut s w a n limit h = at (leb n limit)
   where
-    at : (b : Bool) → Empty (valuesOf (Shown (if b (wholeShown s a n false) (record { source = s; at = a; len = limit - 3; more = true; zero = false }))))
+    at : (b : Bool) → Empty (valuesOf (Shown (if b (wholeShown s a n false) (begunShown s a n (shownOf limit (drop a w))))))
     at true e = absurd (h e)
     at false e = absurd (h e)
 
-empty-found : (size : ℕ) (c : Found.Cell) → Empty (valuesOf (Shown (shownFound size c)))
-empty-found size c = at (eqb (c .limit) 0) (eqb (c .own .len) 0) (eqb size 0)
+pub empty-found : (t k : List ℕ) (c : Found.Cell) → Empty (valuesOf (Shown (shownFound t k c)))
+empty-found t k c = at (eqb (c .limit) 0) (eqb (c .own .len) 0) (eqb (length k) 0)
   where
     at : (b z y : Bool)
         → Empty (valuesOf (Shown (if b (if z (wholeShown Neither 0 0 (c .zero)) (wholeShown Plan (c .own .at) (c .own .len) (c .zero)))
-        (if z (if y (wholeShown Neither 0 0 false) (cutShown Catalogue 0 size (c .limit))) (cutShown Plan (c .own .at) (c .own .len) (c .limit))))))
+        (if z (if y (wholeShown Neither 0 0 false) (cutShown Catalogue k 0 (length k) (c .limit))) (cutShown Plan t (c .own .at) (c .own .len) (c .limit))))))
     at true true y = λ e. (refl, refl)
     at true false y = λ e. unequal (cc)
     at false true true = λ e. (refl, refl)
-    at false true false = empty-cut Catalogue 0 size (c .limit) (λ e. unequal (cc))
-    at false false y = empty-cut Plan (c .own .at) (c .own .len) (c .limit) (λ e. unequal (cc))
+    at false true false = empty-cut Catalogue k 0 (length k) (c .limit) (λ e. unequal (cc))
+    at false false y = empty-cut Plan t (c .own .at) (c .own .len) (c .limit) (λ e. unequal (cc))
 
 module _ (rows : List ℕ) (count : ℕ) (t k : List ℕ) (row n i : ℕ) where
   -- what is found
@@ -223,7 +235,7 @@ module _ (rows : List ℕ) (count : ℕ) (t k : List ℕ) (row n i : ℕ) where
   it = found rows count (length t) row (fieldOf n i)
 
   -- a fact about values holds of those that a call is answered with, if it holds of those of a cell that is refused, and of one that is shown
-  pub by-found : (P : Values → Type 0) → (it .refused ≡ true → P (valuesOf NoCell)) → (it .refused ≡ false → P (valuesOf (Shown (shownFound (length k) it)))) → P (valuesAt rows count t k row n i)
+  pub by-found : (P : Values → Type 0) → (it .refused ≡ true → P (valuesOf NoCell)) → (it .refused ≡ false → P (valuesOf (Shown (shownFound t k it)))) → P (valuesAt rows count t k row n i)
   by-found P p q = at (it .refused) refl
     where
       at : (b : Bool) → it .refused ≡ b → P (valuesAt rows count t k row n i)
@@ -234,7 +246,7 @@ module _ (rows : List ℕ) (count : ℕ) (t k : List ℕ) (row n i : ℕ) where
   inside = by-found (Inside t k) (λ r. omega arith) (λ r. shown-as rows count t k row n i it refl r .inside)
 
   pub neither : Empty (valuesAt rows count t k row n i)
-  neither = by-found Empty (λ r e. (refl, refl)) (λ r. empty-found (length k) it)
+  neither = by-found Empty (λ r e. (refl, refl)) (λ r. empty-found t k it)
 
 -- ---- the text of an answer
 

@@ -31,7 +31,7 @@ use Rattle.cell.proofs.Values.{stands, medication, named, formed, dosed
 
 -- the cell that is told, with that text and that catalogue: of one that is not refused, and of any
 abbrev pub toldShown : List ℕ → List ℕ → Found.Cell → Cell
-toldShown t k c = if (eqb (c .limit) 0) (cell (shown t (paperSpan (c .own))) false (c .zero)) (cutTo (c .limit) (ownOr (shown t (paperSpan (c .own))) k))
+toldShown t k c = if (eqb (c .limit) 0) (cell (shown t (paperSpan (c .own))) false 0 (c .zero)) (cutTo (c .limit) (ownOr (shown t (paperSpan (c .own))) k))
 
 abbrev pub told : List ℕ → List ℕ → Found.Cell → Cell
 told t k c = if (c .refused) noCell (toldShown t k c)
@@ -67,10 +67,10 @@ module _ (t k : List ℕ) where
   by-tests m d v h (c ∷ x) = refl
 
   -- a dose cell is refused where its value points outside the text
-  value-told : (s : Span) (v : List ℕ) (z y : Bool) → v ≡ standsFor t s → y ≡ z → told t k (held (length t) (doseFound (codeSpan s) z)) ≡ if (within (length t) s) (cell v false y) noCell
+  value-told : (s : Span) (v : List ℕ) (z y : Bool) → v ≡ standsFor t s → y ≡ z → told t k (held (length t) (doseFound (codeSpan s) z)) ≡ if (within (length t) s) (cell v false 0 y) noCell
   value-told s v z y e f = rw (e, f) (at (within (length t) s))
     where
-      at : (b : Bool) → told t k (if b (doseFound (codeSpan s) z) noneFound) ≡ if b (cell (if b (shown t s) (replicate (s .len) 0)) false z) noCell
+      at : (b : Bool) → told t k (if b (doseFound (codeSpan s) z) noneFound) ≡ if b (cell (if b (shown t s) (replicate (s .len) 0)) false 0 z) noCell
       at true = refl
       at false = refl
 

@@ -35,17 +35,17 @@ asked k row n i = cellAt rows 2 text k row n i
 
 module _ (k : List ℕ) where
   -- the plan's own name, and its own dose, whatever the catalogue says
-  own : (asked k 1 1 0 ≡ cell (bytes "ASS") false false) × (asked k 1 5 0 ≡ cell (bytes "1") false false)
+  own : (asked k 1 1 0 ≡ cell (bytes "ASS") false 0 false) × (asked k 1 5 0 ≡ cell (bytes "1") false 0 false)
   unfolding cellAt rowFor recordWith spansIn fieldsOf
   own = (refl, refl)
 
   -- midday is absent beside morning: 0 is printed; there is no free text
-  other-time : (asked k 1 6 0 ≡ cell [] false true) × (asked k 1 9 0 ≡ cell [] false false)
+  other-time : (asked k 1 6 0 ≡ cell [] false 0 true) × (asked k 1 9 0 ≡ cell [] false 0 false)
   unfolding cellAt rowFor recordWith spansIn fieldsOf
   other-time = (refl, refl)
 
   -- a free text hides the times, wherever it points; asked for, it is refused
-  free-text : (asked k 2 5 0 ≡ cell [] false false) × (asked k 2 9 0 ≡ noCell)
+  free-text : (asked k 2 5 0 ≡ cell [] false 0 false) × (asked k 2 9 0 ≡ noCell)
   unfolding cellAt rowFor recordWith spansIn fieldsOf
   free-text = (refl, refl)
 
@@ -55,8 +55,8 @@ module _ (k : List ℕ) where
   nothing = (refl, refl, refl)
 
 -- the values of such a cell
-abbrev shows : Source → ℕ → ℕ → Bool → Bool → Values
-shows x a n d m = record { refusal = numbers 0 0 0; source = x; at = a; len = n; more = d; zero = m }
+abbrev shows : Source → ℕ → ℕ → Bool → ℕ → Bool → Values
+shows x a n d o m = record { refusal = numbers 0 0 0; source = x; at = a; len = n; more = d; omitted = o; zero = m }
 
 -- where these texts lie, and the refusals
 abbrev values : List ℕ → ℕ → ℕ → ℕ → Values
@@ -64,7 +64,7 @@ values k row n i = valuesAt rows 2 text k row n i
 
 module _ (k : List ℕ) where
   -- the name and the dose in the plan's text; an empty time comes from neither
-  own-placed : (values k 1 1 0 ≡ shows Plan 0 3 false false) × (values k 1 5 0 ≡ shows Plan 6 1 false false) × (values k 1 6 0 ≡ shows Neither 0 0 false true)
+  own-placed : (values k 1 1 0 ≡ shows Plan 0 3 false 0 false) × (values k 1 5 0 ≡ shows Plan 6 1 false 0 false) × (values k 1 6 0 ≡ shows Neither 0 0 false 0 true)
   unfolding valuesAt cellAt rowFor recordWith spansIn fieldsOf
   own-placed = (refl, refl, refl)
 
@@ -74,11 +74,11 @@ module _ (k : List ℕ) where
   no-place = (refl, refl)
 
 -- the form's text is the catalogue's, from its beginning; without one it is neither's
-form-placed : (values (bytes "Tablette") 1 4 0 ≡ shows Catalogue 0 4 true false) × (values [] 1 4 0 ≡ shows Neither 0 0 false false)
+form-placed : (values (bytes "Tablette") 1 4 0 ≡ shows Catalogue 0 4 true 4 false) × (values [] 1 4 0 ≡ shows Neither 0 0 false 0 false)
 unfolding valuesAt cellAt rowFor recordWith spansIn fieldsOf
 form-placed = (refl, refl)
 
 -- the form's code is no text: the catalogue's stands in, cut to four bytes and "..."
-form-cut : asked (bytes "Tablette") 1 4 0 ≡ cell (bytes "Tabl") true false
+form-cut : asked (bytes "Tablette") 1 4 0 ≡ cell (bytes "Tabl") true 4 false
 unfolding cellAt rowFor recordWith spansIn fieldsOf
 form-cut = refl

@@ -2,7 +2,7 @@
 -- the code tells, `valuesAt` what document 01 answers to a call; `sliceOf` what a slice is, `textIn` which part of which buffer values tell.
 -- Assumes nothing.
 use mathlib.Core.Bool.{Bool, true, false, _||_}
-use mathlib.Core.List.{List}
+use mathlib.Core.List.{List, []}
 use mathlib.Core.Option.{Option, none, some}
 use Prim.Native.Nat.{ℕ, _+_, _-_}
 use lib.ListN.{length, take, drop}
@@ -31,22 +31,23 @@ sourceNumber Catalogue = 2
 sourceNumber Neither = 0
 
 -- what an answer says: the refusal's number, page and place; which buffer the text is a part of, where it begins there and how long it is; "a flag that '...'
--- follows"; "a mark that 0 is printed"
+-- follows"; "how many characters were left out"; "a mark that 0 is printed"
 pub record Values : Type 0 where
   pub refusal : Numbers
   pub source : Source
   pub at : ℕ
   pub len : ℕ
   pub more : Bool
+  pub omitted : ℕ
   pub zero : Bool
 
 -- the values of a refused cell, which shows nothing
 abbrev pub showsNothing : Numbers → Values
-showsNothing x = record { refusal = x; source = Neither; at = 0; len = 0; more = false; zero = false }
+showsNothing x = record { refusal = x; source = Neither; at = 0; len = 0; more = false; omitted = 0; zero = false }
 
 -- the values of each case
 abbrev pub valuesOf : Answer → Values
-valuesOf (Shown s) = record { refusal = numbersOf (Shown s); source = s .source; at = s .at; len = s .len; more = s .more; zero = s .zero }
+valuesOf (Shown s) = record { refusal = numbersOf (Shown s); source = s .source; at = s .at; len = s .len; more = s .more; omitted = s .omitted; zero = s .zero }
 valuesOf NoCell = showsNothing (numbersOf NoCell)
 
 -- the buffer of a source, of the plan's and the catalogue's; an empty cell counts as a part of the plan's
@@ -55,9 +56,14 @@ buffer Plan t k = t
 buffer Catalogue t k = k
 buffer Neither t k = t
 
+-- the text of a cell
+abbrev pub textOf : Cell → List ℕ
+textOf (cell t d o m) = t
+textOf noCell = []
+
 -- the cell of document 01 that an answer tells: its text is that part of its buffer
 abbrev pub cellTold : List ℕ → List ℕ → Answer → Cell
-cellTold t k (Shown s) = cell (take (s .len) (drop (s .at) (buffer (s .source) t k))) (s .more) (s .zero)
+cellTold t k (Shown s) = cell (take (s .len) (drop (s .at) (buffer (s .source) t k))) (s .more) (s .omitted) (s .zero)
 cellTold t k NoCell = noCell
 
 -- ---- what document 01 answers
@@ -82,7 +88,7 @@ placeFor l (some f) k = if (absent (ownSpan l f)) (if (isDose f || isEmpty k) (N
 
 -- the values of document 01's cell whose text begins at that place; refusal 1 at 0, 0 where there is none
 abbrev pub valuesAs : Source × ℕ → Cell → Values
-valuesAs p (cell t d m) = record { refusal = numbers 0 0 0; source = p .0; at = p .1; len = length t; more = d; zero = m }
+valuesAs p (cell t d o m) = record { refusal = numbers 0 0 0; source = p .0; at = p .1; len = length t; more = d; omitted = o; zero = m }
 valuesAs p noCell = showsNothing (numbers 1 0 0)
 
 -- the values of the cell that a call asks for

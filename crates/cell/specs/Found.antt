@@ -7,9 +7,9 @@ use mathlib.Core.Option.{Option, none, some}
 use mathlib.Core.Path.{_≡_}
 use Prim.Native.Nat.{ℕ, _+_, _-_, _*_, _≤_}
 use lib.Dec.{eqb, leb}
-use lib.ListN.{getD}
+use lib.ListN.{length, drop, getD}
 use Rattle.paper.specs.Lists.{if}
-use Rattle.paper.specs.Cells.{CellField, name, form, morning, midday, evening, night, freeDose, substance, strength, ofThree}
+use Rattle.paper.specs.Cells.{CellField, name, form, morning, midday, evening, night, freeDose, substance, strength, ofThree, shownOf}
 use Rattle.plan.specs.Numbers.{recordAt, within, paperSpan}
 use Rattle.plan.specs.Records.{noSpan, rowIn}
 use Rattle.plan.specs.declared.Span.{Span}
@@ -98,19 +98,27 @@ Roomy c = (c .limit ≡ 0 → ⊥) → 3 ≤ c .limit
 
 -- n bytes of a buffer from place a on, shown whole
 abbrev pub wholeShown : Source → ℕ → ℕ → Bool → Shown
-wholeShown s a n z = record { source = s; at = a; len = n; more = false; zero = z }
+wholeShown s a n z = record { source = s; at = a; len = n; more = false; omitted = 0; zero = z }
 
--- the same up to a limit
-abbrev pub cutShown : Source → ℕ → ℕ → ℕ → Shown
-cutShown s a n limit = if (leb n limit) (wholeShown s a n false) (record { source = s; at = a; len = limit - 3; more = true; zero = false })
+-- the first place whose blank a text may be cut before, where so many bytes have room
+abbrev pub firstPlace : ℕ → ℕ
+firstPlace m = if (leb m 10) 1 (m - 10)
 
--- a dose, and a text with a limit beside a catalogue of so many bytes
+-- the first i of n bytes, and the rest left out
+abbrev pub begunShown : Source → ℕ → ℕ → ℕ → Shown
+begunShown s a n i = record { source = s; at = a; len = i; more = true; omitted = n - i; zero = false }
+
+-- n bytes of the buffer b from place a on, up to a limit
+abbrev pub cutShown : Source → List ℕ → ℕ → ℕ → ℕ → Shown
+cutShown s b a n limit = if (leb n limit) (wholeShown s a n false) (begunShown s a n (shownOf limit (drop a b)))
+
+-- a dose, and a text with a limit beside a catalogue
 abbrev pub doseShown : Span → Bool → Shown
 doseShown s z = if (eqb (s .len) 0) (wholeShown Neither 0 0 z) (wholeShown Plan (s .at) (s .len) z)
 
-abbrev pub textShown : ℕ → Span → ℕ → Shown
-textShown size s limit = if (eqb (s .len) 0) (if (eqb size 0) (wholeShown Neither 0 0 false) (cutShown Catalogue 0 size limit)) (cutShown Plan (s .at) (s .len) limit)
+abbrev pub textShown : List ℕ → List ℕ → Span → ℕ → Shown
+textShown t k s limit = if (eqb (s .len) 0) (if (eqb (length k) 0) (wholeShown Neither 0 0 false) (cutShown Catalogue k 0 (length k) limit)) (cutShown Plan t (s .at) (s .len) limit)
 
 -- a cell that is found
-abbrev pub shownFound : ℕ → Cell → Shown
-shownFound size c = if (eqb (c .limit) 0) (doseShown (c .own) (c .zero)) (textShown size (c .own) (c .limit))
+abbrev pub shownFound : List ℕ → List ℕ → Cell → Shown
+shownFound t k c = if (eqb (c .limit) 0) (doseShown (c .own) (c .zero)) (textShown t k (c .own) (c .limit))

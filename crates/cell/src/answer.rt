@@ -13,12 +13,13 @@ pub enum Source {
 }
 
 // What a cell shows: the buffer that its text is a part of, where the text begins there and how many bytes it has (0 and 0 with neither), whether "..."
-// follows, and whether 0 is printed.
+// follows, how many bytes of the whole text were left out, and whether 0 is printed.
 pub struct Shown {
     pub source: Source,
     pub at: usize,
     pub len: usize,
     pub more: bool,
+    pub omitted: usize,
     pub zero: bool,
 }
 

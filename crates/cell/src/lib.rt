@@ -1,13 +1,16 @@
-// The text of a printed cell: the plan's own value, else the catalogue's text, as a part of the one or the other. Any rows, text, catalogue and numbers
-// may be handed in. specs/Numbered.antt says which cell of document 01 each call asks for, specs/Answers.antt what is answered.
+// The text of a printed cell: the plan's own value, else the catalogue's text, as a part of the one or the other, cut where it is too long. Any rows, text,
+// catalogue and numbers may be handed in. specs/Numbered.antt says which cell of document 01 each call asks for, specs/Answers.antt what is answered.
 pub mod answer;
 
 ghost use mathlib.Core.Path.{_≡_};
-ghost use Prim.Native.Nat.{_≤_};
+ghost use mathlib.Core.Bool.{true};
+ghost use Prim.Native.Nat.{_+_, _≤_};
+ghost use lib.ListN.{length, drop};
+ghost use Rattle.paper.specs.Cells.{shownOf};
 ghost use Rattle.plan.specs.Numbers.{paperSpan, within};
 ghost use Rattle.cell.specs.Numbered.{fieldOf, rowThere};
 ghost use Rattle.cell.specs.Answers.{valuesOf, valuesAt, sliceOf, textIn};
-ghost use Rattle.cell.specs.Found.{noneFound, textFound, doseFound, timeOf, timeFound, freeFound, threeFound, fieldFound, isMedication, found, Roomy, wholeShown, cutShown, shownFound};
+ghost use Rattle.cell.specs.Found.{noneFound, textFound, doseFound, timeOf, timeFound, freeFound, threeFound, fieldFound, isMedication, found, Roomy, wholeShown, firstPlace, cutShown, shownFound};
 use crate::answer::Answer;
 use crate::answer::Shown;
 use crate::answer::Source;
@@ -68,6 +71,8 @@ impl Cell {
     pub const DOSE: usize = 0;
     // The room that "..." takes of a cell that is cut.
     pub const DOTS: usize = 3;
+    // How many of the last bytes before that room are looked at for a blank to cut before.
+    pub const BACK: usize = 10;
 }
 
 // The cell that is refused.
@@ -277,31 +282,61 @@ fn whole(source: Source, at: usize, len: usize, zero: bool) -> Shown
         at: at,
         len: len,
         more: false,
+        omitted: 0,
         zero: zero,
     }
 }
 
-// What a cell with a limit shows of a text: all of it, or its beginning where it is longer than the limit, with room left for "...".
-fn cut(source: Source, at: usize, len: usize, limit: usize) -> Shown
-    requires { ⌜ 3 ≤ limit ⌝ }
-    ensures { λ r. ⌜ r ≡ cutShown source «at» len limit ⌝ }
+// Where `most` bytes have room, the first place whose blank a text may be cut before: one of the last ten, and not the very first byte.
+fn first_place(most: usize) -> usize
+    ensures { λ r. ⌜ r ≡ firstPlace most ⌝ }
+{
+    if most <= Cell::BACK {
+        return 1;
+    }
+    most - Cell::BACK
+}
+
+// How many bytes are shown of a text that begins at `at` and is longer than its limit: those before the last such blank, else as many as leave room for "...".
+fn shown_of(buffer: &[u8], at: usize, limit: usize) -> usize
+    requires { ⌜ (3 ≤ limit) × («at» + limit ≤ length (now buffer)) ⌝ }
+    ensures { λ r. ⌜ r ≡ shownOf limit (drop «at» (now (buffer .entry))) ⌝ }
+{
+    let most = limit - Cell::DOTS;
+    let first = first_place(most);
+    let mut p = most;
+    while p > first {
+        p -= 1;
+        if buffer[at + p] == b' ' {
+            return p;
+        }
+    }
+    most
+}
+
+// What a cell with a limit shows of a text: all of it, or its beginning where it is longer than the limit.
+fn cut(source: Source, buffer: &[u8], at: usize, len: usize, limit: usize) -> Shown
+    requires { ⌜ (3 ≤ limit) × («at» + len ≤ length (now buffer)) ⌝ }
+    ensures { λ r. ⌜ r ≡ cutShown source (now (buffer .entry)) «at» len limit ⌝ }
 {
     if len <= limit {
         return whole(source, at, len, false);
     }
+    let shown = shown_of(buffer, at, limit);
     Shown {
         source: source,
         at: at,
-        len: limit - Cell::DOTS,
+        len: shown,
         more: true,
+        omitted: len - shown,
         zero: false,
     }
 }
 
-// What a cell shows that is found, with a catalogue of so many bytes.
-fn shown(c: Cell, size: usize) -> Shown
-    requires { ⌜ Roomy c ⌝ }
-    ensures { λ r. ⌜ r ≡ shownFound size c ⌝ }
+// What a cell shows that is found, with its text and its catalogue.
+fn shown<'a>(c: Cell, text: &'a [u8], catalogue: &'a [u8]) -> Shown
+    requires { ⌜ (Roomy c) × (within (length (now text)) (paperSpan (c .own)) ≡ true) ⌝ }
+    ensures { λ r. ⌜ r ≡ shownFound (now (text .entry)) (now (catalogue .entry)) c ⌝ }
 {
     let limit = c.limit;
     let at = wide(c.own.at);
@@ -313,10 +348,10 @@ fn shown(c: Cell, size: usize) -> Shown
         return whole(Source::Plan, at, len, c.zero);
     }
     if len > 0 {
-        return cut(Source::Plan, at, len, limit);
+        return cut(Source::Plan, text, at, len, limit);
     }
-    if size > 0 {
-        return cut(Source::Catalogue, 0, size, limit);
+    if catalogue.len() > 0 {
+        return cut(Source::Catalogue, catalogue, 0, catalogue.len(), limit);
     }
     whole(Source::Neither, 0, 0, false)
 }
@@ -337,7 +372,7 @@ pub fn cell_answer<'a>(
     if c.refused {
         return Answer::NoCell;
     }
-    let s = shown(c, catalogue.len());
+    let s = shown(c, text, catalogue);
     Answer::Shown(s)
 }
 

@@ -42,6 +42,8 @@ pub mod Reordered
 pub mod Collected
 pub mod MissingMask
 pub mod CellLaws
+pub mod CellCases
+pub mod CellRoom
 pub mod Indexed
 pub mod Refusals
 pub mod Cited

@@ -15,7 +15,7 @@ use Rattle.paper.specs.Plan.{Row, Plan}
 use Rattle.paper.specs.Judging.{Sheet, Judged, refused, sheet, judge, faults, items, sheetOf, verdict}
 use Rattle.paper.specs.Reading.{Answer, refusal, plan, Judgement, join, decide, read}
 use Rattle.paper.specs.Writing.{badCall, unsound, tooLong, fresh}
-use Rattle.paper.specs.Calls.{roomy, readCall, listCall, freshCall, findCall}
+use Rattle.paper.specs.Calls.{roomy, readCall, listCall, freshCall, findCall, cellCall}
 use Rattle.paper.specs.Collecting.{Collector, refusedWith, add, addCall, collectedCall}
 use Rattle.paper.specs.Cells.{CellField, noCell, cellIn}
 use Rattle.paper.specs.Index as Index
@@ -57,6 +57,11 @@ one-afresh out = one-room (out < 12600) (leb 12600 out) (room-short 12600 out)
 pub one-finding : (list : ℕ) (b ss ns : List ℕ) (k i : ℕ) → (findCall list b ss ns ≡ refusal 1 k i) ↔ (Unread (list < 256) b ss ns × (k ≡ 0) × (i ≡ 0))
 unfolding findCall
 one-finding list = one-room (list < 256) (leb 256 list) (room-short 256 list)
+
+-- a call that asks for a printed cell, with so many bytes lent
+pub one-printing : (out : ℕ) (b ss ns : List ℕ) (k i : ℕ) → (cellCall out b ss ns ≡ refusal 1 k i) ↔ (Unread (out < 80) b ss ns × (k ≡ 0) × (i ≡ 0))
+unfolding cellCall
+one-printing out = one-room (out < 80) (leb 80 out) (room-short 80 out)
 
 -- building an index, and asking one
 pub one-building : (count rows lent : ℕ) → (buildable count rows lent ≡ false) ↔ ((256 < count) ⊎ (rows < count) ⊎ (lent < 256))

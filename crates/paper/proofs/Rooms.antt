@@ -174,7 +174,7 @@ least-long : (f : Field) (v : List ℕ) → goodSlot f v ≡ true → isEmpty v 
 least-long f [] g e = no e
 least-long f (c ∷ v) g e = keeping f c v g .long
 
-most-short : (f : Field) (v : List ℕ) → goodSlot f v ≡ true → length v ≤ f .most
+pub most-short : (f : Field) (v : List ℕ) → goodSlot f v ≡ true → length v ≤ f .most
 most-short f [] g = omega arith
 most-short f (c ∷ v) g = keeping f c v g .short
 

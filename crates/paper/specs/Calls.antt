@@ -24,6 +24,10 @@ pageRoom = 12600
 abbrev pub listingRoom : ℕ
 listingRoom = 25200
 
+-- the longest limit of a cell, the substance's: no cell of a plan that was read shows more bytes
+abbrev pub cellRoom : ℕ
+cellRoom = 80
+
 -- every page lies in the buffer, and there are as many starts as lengths
 abbrev pub inside : List ℕ → List ℕ → List ℕ → Bool
 inside b [] [] = true
@@ -60,3 +64,7 @@ freshCall out b ss ns = readAt (leb pageRoom out) b ss ns
 -- a call that finds a package number in pages, with room for so many rows in the lent list; document 02, ask 2: "less than its room is 1"
 unfoldable pub findCall : ℕ → List ℕ → List ℕ → List ℕ → Answer
 findCall list b ss ns = readAt (leb rowRoom list) b ss ns
+
+-- a call that asks for a cell of the plan in pages, with so many bytes lent for its text
+unfoldable pub cellCall : ℕ → List ℕ → List ℕ → List ℕ → Answer
+cellCall out b ss ns = readAt (leb cellRoom out) b ss ns

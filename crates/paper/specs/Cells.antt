@@ -1,10 +1,10 @@
--- Cells: document 01, "Text for a printed cell".
+-- Cells: document 01, "Text for a printed cell", and document 02, ask 4: where a text that is too long is cut, and how much is left out.
 -- Assumes nothing.
 use mathlib.Core.Bool.{Bool, true, false, _&&_}
 use mathlib.Core.List.{List, [], _∷_}
-use Prim.Native.Nat.{ℕ, zero, suc, _-_}
-use lib.Dec.{leb}
-use lib.ListN.{length, take}
+use Prim.Native.Nat.{ℕ, zero, suc, _+_, _-_}
+use lib.Dec.{eqb, leb}
+use lib.ListN.{length, take, getD}
 use Rattle.paper.specs.Lists.{bytes, if, isEmpty}
 use Rattle.paper.specs.Fields.{M, W, is, fieldsOf}
 use Rattle.paper.specs.Plan.{Slots, Row, slot, Dose, scheme, freeText, unstated, doseOf}
@@ -15,9 +15,9 @@ pub data CellField : Type 0 where
   name form morning midday evening night freeDose : CellField
   substance strength : ℕ → CellField
 
--- a cell: its text, "a flag that '...' follows", and "a mark that 0 is printed"; or refusal 1
+-- a cell: its text, "a flag that '...' follows", "how many characters were left out", and "a mark that 0 is printed"; or refusal 1
 pub data Cell : Type 0 where
-  cell : List ℕ → Bool → Bool → Cell
+  cell : List ℕ → Bool → ℕ → Bool → Cell
   noCell : Cell
 
 -- the value of an M's field
@@ -31,9 +31,22 @@ ofW n zero (w ∷ ws) = []
 ofW n (suc zero) (w ∷ ws) = slot n (fieldsOf W) w
 ofW n (suc (suc i)) (w ∷ ws) = ofW n (suc i) ws
 
--- "Longer than the limit n: the first n − 3 bytes, and a flag that '...' follows."
+-- "if that blank is one of the last ten of them and not the very first byte": the place, one of the first n − 3, is that of a blank before which a text may be cut
+abbrev pub isSeam : ℕ → List ℕ → ℕ → Bool
+isSeam n v p = eqb (getD v p 0) 32 && (leb 1 p && leb (n - 3) (p + 10))
+
+-- the last place before m that passes the test; where there is none, the other number
+abbrev pub lastBefore : (ℕ → Bool) → ℕ → ℕ → ℕ
+lastBefore test other zero = other
+lastBefore test other (suc p) = if (test p) p (lastBefore test other p)
+
+-- "cut before the last blank among the first n − 3 bytes, if …; otherwise as today": how many bytes are shown of a text that is too long
+abbrev pub shownOf : ℕ → List ℕ → ℕ
+shownOf n v = lastBefore (isSeam n v) (n - 3) (n - 3)
+
+-- "Longer than the limit n: …, and a flag that '...' follows"; "Say with each cell how many characters were left out"
 abbrev pub cutTo : ℕ → List ℕ → Cell
-cutTo n v = if (leb (length v) n) (cell v false false) (cell (take (n - 3) v) true false)
+cutTo n v = if (leb (length v) n) (cell v false 0 false) (cell (take (shownOf n v) v) true (length v - shownOf n v) false)
 
 -- "the plan's own text if there …, else the catalogue's"
 abbrev pub ownOr : List ℕ → List ℕ → List ℕ
@@ -42,15 +55,15 @@ ownOr (c ∷ v) catalogue = c ∷ v
 
 -- "A dose cell never uses the catalogue; an absent time is empty, with a mark that 0 is printed if another time is there."
 abbrev pub timeCell : (List ℕ → List ℕ → List ℕ → List ℕ → List ℕ) → Dose → Cell
-timeCell which (scheme m d v h) = cell (which m d v h) false (isEmpty (which m d v h))
-timeCell which (freeText t) = cell [] false false
-timeCell which unstated = cell [] false false
+timeCell which (scheme m d v h) = cell (which m d v h) false 0 (isEmpty (which m d v h))
+timeCell which (freeText t) = cell [] false 0 false
+timeCell which unstated = cell [] false 0 false
 
 -- the dose as free text
 abbrev pub freeCell : Dose → Cell
-freeCell (scheme m d v h) = cell [] false false
-freeCell (freeText t) = cell t false false
-freeCell unstated = cell [] false false
+freeCell (scheme m d v h) = cell [] false 0 false
+freeCell (freeText t) = cell t false 0 false
+freeCell unstated = cell [] false 0 false
 
 -- which of three
 abbrev pub ofThree : ℕ → Bool

@@ -26,7 +26,7 @@ pub extern "C" fn probe_cell_text<'a>(
 }
 
 // The number of a cell's refusal, 0 for a cell; in `told` the number of the source of its text, where the text begins there, its length, whether "..."
-// follows and whether 0 is printed. Of a refused cell all five are 0.
+// follows, whether 0 is printed and how many bytes were left out. Of a refused cell all six are 0.
 #[no_mangle]
 pub extern "C" fn probe_cell<'a>(
     rows: &'a [u32],
@@ -36,7 +36,7 @@ pub extern "C" fn probe_cell<'a>(
     row: usize,
     field: u32,
     which: usize,
-    told: &mut [usize; 5],
+    told: &mut [usize; 6],
 ) -> u32 {
     let a = cell_answer(rows, count, text, catalogue, row, field, which);
     match a {
@@ -47,6 +47,7 @@ pub extern "C" fn probe_cell<'a>(
             told[2] = s.len;
             told[3] = s.more as usize;
             told[4] = s.zero as usize;
+            told[5] = s.omitted;
         }
         Answer::NoCell => {
             told[0] = 0;
@@ -54,6 +55,7 @@ pub extern "C" fn probe_cell<'a>(
             told[2] = 0;
             told[3] = 0;
             told[4] = 0;
+            told[5] = 0;
         }
     }
     refusal_number(a)

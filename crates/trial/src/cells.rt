@@ -1,7 +1,7 @@
 // The command k: a cell. Seven numbers of four bytes, lowest first: count, row, field, which, and the lengths of rows, text and catalogue; then these, each
 // number of the rows in four bytes, at most 16,384 of them. It prints
-//   cell NUMBER SOURCE AT LENGTH MORE ZERO: the number of the refusal; which buffer the text is a part of (1 the plan's, 2 the catalogue's, 0 neither), where it
-//     begins there and how long it is; whether "..." follows and whether 0 is printed
+//   cell NUMBER SOURCE AT LENGTH MORE ZERO OMITTED: the number of the refusal; which buffer the text is a part of (1 the plan's, 2 the catalogue's, 0 neither),
+//     where it begins there and how long it is; whether "..." follows and whether 0 is printed; how many bytes were left out
 //   text, and the bytes of the cell's text
 // or, if the bytes are too few: bad
 ghost use Prim.Native.Nat.{_+_, _*_, _≤_};
@@ -50,6 +50,7 @@ fn tell_shown(s: Shown) {
     size(s.len);
     number(s.more as u32);
     number(s.zero as u32);
+    size(s.omitted);
 }
 
 // What a cell shows that is answered; nothing where it is refused.
@@ -61,6 +62,7 @@ fn shown_of(a: Answer) -> Shown {
             at: 0,
             len: 0,
             more: false,
+            omitted: 0,
             zero: false,
         },
     }
