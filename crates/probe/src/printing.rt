@@ -1,5 +1,6 @@
-// What the programs planlist, planfresh and planfind print for an input, for the tests.
+// What the programs planlist, planfresh, planfind and plancell print for an input, for the tests.
 use tollgilt::input::Printed;
+use tollgilt::input::cell_input;
 use tollgilt::input::find_input;
 use tollgilt::input::fresh_input;
 use tollgilt::input::list_input;
@@ -33,5 +34,12 @@ pub extern "C" fn probe_planfresh(input: &[u8], out: &mut [u8], told: &mut [usiz
 #[no_mangle]
 pub extern "C" fn probe_planfind(input: &[u8], out: &mut [u8], told: &mut [usize; 1]) -> u32 {
     let printed = find_input(input, out);
+    tell(printed, told)
+}
+
+// What plancell prints for its input, in the same way.
+#[no_mangle]
+pub extern "C" fn probe_plancell(input: &[u8], out: &mut [u8], told: &mut [usize; 1]) -> u32 {
+    let printed = cell_input(input, out);
     tell(printed, told)
 }

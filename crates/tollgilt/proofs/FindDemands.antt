@@ -52,7 +52,7 @@ unfolding readAt
 plan-room true b ss ns p e = refl
 plan-room false b ss ns p e = unequal (cc)
 
-roomy-plan : (room : Bool) (b ss ns : List ℕ) (p : Said.Plan) → readAt room b ss ns ≡ Paper.plan p → readAt true b ss ns ≡ Paper.plan p
+pub roomy-plan : (room : Bool) (b ss ns : List ℕ) (p : Said.Plan) → readAt room b ss ns ≡ Paper.plan p → readAt true b ss ns ≡ Paper.plan p
 roomy-plan room b ss ns p e = ap (λ (x : Bool). readAt x b ss ns) (sym (plan-room room b ss ns p e)) ∙ e
 
 -- an answer without a refusal's number is a plan

@@ -1,4 +1,4 @@
--- FindInput: what planfind prints: the number that its input asks for, and the lines of the rows that hold it, which fit the room.
+-- FindInput: an input that asks for a number; and what planfind prints: the lines of the rows that hold it, which fit the room.
 -- Assumes nothing.
 use mathlib.Core.Path.{_≡_, refl, ap, sym, _∙_, subst}
 use mathlib.Core.Bool.{Bool, true, false, _&&_}
@@ -28,7 +28,7 @@ use Rattle.listing.proofs.Fielded.{print-append}
 use Rattle.listing.proofs.Pieces.{Fits, fits-as, fits-whole}
 use Rattle.reader.specs.Answers as Read
 use Rattle.tollgilt.specs.Find.{Promised, answered}
-use Rattle.tollgilt.specs.Printed.{Answer, refusal, prints, rowLines, heldLines, foundLines, foundIn, isAsked, asks, numberAsked, behindNumber, AsksFor, Asks, planfind, foundRoom, findAnswer, lengthOf, lengthTold, Prints}
+use Rattle.tollgilt.specs.Printed.{Answer, refusal, prints, rowLines, heldLines, foundLines, foundIn, isAsked, asks, numberAsked, behindNumber, AsksFor, Asks, asked, planfind, foundRoom, findAnswer, lengthOf, lengthTold, Prints}
 use Rattle.tollgilt.specs.declared.find.Found.{Found}
 use Rattle.tollgilt.specs.declared.input.Printed.{Printed}
 use Rattle.tollgilt.specs.declared.input.Printed.the-variants.{Bytes}
@@ -79,20 +79,6 @@ found-short n f = at (read f) refl
     at : (a : Paper.Answer) → read f ≡ a → length (foundLines n a) ≤ 2057
     at (Paper.refusal m k i) e = omega (arith, refusal-short m k i)
     at (Paper.plan p) e = held-short n p (read-sound f p e .1) .1
-
--- what is printed is never longer than the room
-pub find-fits : (out input : List ℕ) (r : Printed) (out′ : List ℕ) → Prints (findAnswer out input) out r out′ → lengthOf r ≤ length out
-unfolding findAnswer planfind foundIn
-find-fits out input r out′ P = at (leb foundRoom (length out)) refl (P .length-is)
-  where
-    short : (b : Bool) → length (if b (foundLines (numberAsked input) (read (parted (take 12609 (behindNumber input))))) (refusalLines 1 0 0)) ≤ 2057
-    short true = found-short (numberAsked input) (parted (take 12609 (behindNumber input)))
-    short false = omega (arith, refusal-short 1 0 0)
-
-    at : (b : Bool) → leb foundRoom (length out) ≡ b
-        → lengthOf r ≡ lengthTold (if b (prints (if (asks input) (foundLines (numberAsked input) (read (parted (take 12609 (behindNumber input))))) (refusalLines 1 0 0))) (refusal 1 0 0)) → lengthOf r ≤ length out
-    at true e q = omega (arith, leb-true foundRoom (length out) e, short (asks input))
-    at false e q = omega arith
 
 -- ---- one line behind the other: the first of a list's numbers are the rows
 
@@ -165,14 +151,32 @@ module _ (s : List ℕ) (e : ℕ) (found : e ≡ 0 + toZero s) (inside : e ≤ l
         inside = omega arith;
       }
 
--- ---- the first 12,618 bytes decide: eight digits, a zero byte, and what counts behind it
+-- what is printed for it
+module _ (f : ℕ → List ℕ → List ℕ) (s : List ℕ) where
+  pub asked-none : asks s ≡ false → refusalLines 1 0 0 ≡ asked f s
+  asked-none e = rw e
+
+  pub asked-one : (m at : ℕ) → AsksFor s m at → f m (take (length s - at) (drop at s)) ≡ asked f s
+  asked-one m at A =
+      let rest : take (length s - at) (drop at s) ≡ behindNumber s = take-all (length s - at) (drop at s) (omega (arith, length-drop at s)) ∙ A .pages-are in
+      rw (A .asks-one, A .number-is, rest)
+
+  -- it is no longer than what is printed for any number, and than a refusal's lines
+  pub asked-short : (l : ℕ) → 82 ≤ l → ((m : ℕ) (s : List ℕ) → length (f m s) ≤ l) → length (asked f s) ≤ l
+  asked-short l h g = at (asks s)
+    where
+      at : (b : Bool) → length (if b (f (numberAsked s) (behindNumber s)) (refusalLines 1 0 0)) ≤ l
+      at true = g (numberAsked s) (behindNumber s)
+      at false = omega (arith, refusal-short 1 0 0)
+
+-- ---- the first bytes decide: eight digits, a zero byte, and what counts behind it
 
 zero-within : (s : List ℕ) → toZero s ≤ length s
 zero-within [] = omega arith
 zero-within (zero ∷ s) = omega arith
 zero-within (suc c ∷ s) = omega (arith, zero-within s)
 
-zero-among : (m : ℕ) (s : List ℕ) → toZero s < m → toZero (take m s) ≡ toZero s
+pub zero-among : (m : ℕ) (s : List ℕ) → toZero s < m → toZero (take m s) ≡ toZero s
 zero-among zero s h = absurd (omega arith)
 zero-among (suc m) [] h = refl
 zero-among (suc m) (zero ∷ s) h = refl
@@ -184,46 +188,54 @@ zero-behind (suc m) [] h = absurd (omega arith)
 zero-behind (suc m) (zero ∷ s) h = absurd (omega arith)
 zero-behind (suc m) (suc c ∷ s) h = ap suc (zero-behind m s (omega arith))
 
-part-of : (a b m : ℕ) (s : List ℕ) → a + b ≤ m → take a (drop b (take m s)) ≡ take a (drop b s)
+pub part-of : (a b m : ℕ) (s : List ℕ) → a + b ≤ m → take a (drop b (take m s)) ≡ take a (drop b s)
 part-of a zero m s h = take-take a m s (omega arith)
 part-of a (suc b) zero s h = absurd (omega arith)
 part-of a (suc b) (suc m) [] h = refl
 part-of a (suc b) (suc m) (x ∷ s) h = part-of a b m s (omega arith)
 
+-- a zero byte among the first bytes is one of the input
+pub zero-there : (m : ℕ) (s : List ℕ) → toZero s < m → ltb (toZero s) (length (take m s)) ≡ ltb (toZero s) (length s)
+zero-there m s h = at (ltb (toZero s) (length s)) refl
+  where
+    at : (b : Bool) → ltb (toZero s) (length s) ≡ b → ltb (toZero s) (length (take m s)) ≡ ltb (toZero s) (length s)
+    at true e = lt-ltb (toZero s) (length (take m s)) (omega (arith, ltb-true (toZero s) (length s) e, length-take m s)) ∙ sym e
+    at false e = le-ltb (toZero s) (length (take m s)) (omega (arith, ltb-false (toZero s) (length s) e, length-take m s)) ∙ sym e
+
+-- a zero byte that comes late comes late among the first bytes too
+pub zero-late : (k m : ℕ) (s : List ℕ) → k < m → k < toZero s → k < toZero (take m s)
+zero-late k m s l h = at (leb m (toZero s)) refl
+  where
+    at : (b : Bool) → leb m (toZero s) ≡ b → k < toZero (take m s)
+    at true f = omega (arith, zero-behind m s (leb-true m (toZero s) f))
+    at false f = omega (arith, zero-among m s (leb-false m (toZero s) f))
+
 -- more than eight bytes before the first zero byte are no number
 long-number : (s : List ℕ) → 8 < toZero s → asks s ≡ false
 long-number s = too-many s (toZero s) (omega arith) (zero-within s)
 
-same-asks : (s : List ℕ) → toZero s ≤ 8 → asks (take 12618 s) ≡ asks s
-same-asks s h =
-    let z : toZero (take 12618 s) ≡ toZero s = zero-among 12618 s (omega arith) in
-    rw (z, take-take (toZero s) 12618 s (omega arith)) (ap (λ (b : Bool). b && isAsked (take (toZero s) s)) (at (ltb (toZero s) (length s)) refl))
-  where
-    at : (b : Bool) → ltb (toZero s) (length s) ≡ b → ltb (toZero s) (length (take 12618 s)) ≡ ltb (toZero s) (length s)
-    at true e = lt-ltb (toZero s) (length (take 12618 s)) (omega (arith, ltb-true (toZero s) (length s) e, length-take 12618 s)) ∙ sym e
-    at false e = le-ltb (toZero s) (length (take 12618 s)) (omega (arith, ltb-false (toZero s) (length s) e, length-take 12618 s)) ∙ sym e
+module _ (f : ℕ → List ℕ → List ℕ) (n : ℕ) (counts : (m : ℕ) (s : List ℕ) → f m (take n s) ≡ f m s) where
+  few-digits : (s : List ℕ) → toZero s ≤ 8 → asked f (take (9 + n) s) ≡ asked f s
+  few-digits s h =
+      let z : toZero (take (9 + n) s) ≡ toZero s = zero-among (9 + n) s (omega arith) in
+      let behind : f (numberAsked s) (drop (suc (toZero s)) (take (9 + n) s)) ≡ f (numberAsked s) (behindNumber s) = sym (counts (numberAsked s) (drop (suc (toZero s)) (take (9 + n) s)))
+      ∙ (ap (f (numberAsked s)) (part-of n (suc (toZero s)) (9 + n) s (omega arith)) ∙ counts (numberAsked s) (behindNumber s)) in
+      rw (z, take-take (toZero s) (9 + n) s (omega arith), zero-there (9 + n) s (omega arith), behind)
 
-few-digits : (s : List ℕ) → toZero s ≤ 8 → planfind (take 12618 s) ≡ planfind s
-unfolding planfind foundIn
-few-digits s h =
-    let z : toZero (take 12618 s) ≡ toZero s = zero-among 12618 s (omega arith) in
-    rw (same-asks s h, z, take-take (toZero s) 12618 s (omega arith), part-of 12609 (suc (toZero s)) 12618 s (omega arith))
+  many-digits : (s : List ℕ) → 8 < toZero s → asked f (take (9 + n) s) ≡ asked f s
+  many-digits s h = rw (long-number s h, long-number (take (9 + n) s) (zero-late 8 (9 + n) s (omega arith) h))
 
-many-digits : (s : List ℕ) → 8 < toZero s → planfind (take 12618 s) ≡ planfind s
-unfolding planfind
-many-digits s h = rw (long-number s h, long-number (take 12618 s) (late (leb 12618 (toZero s)) refl))
-  where
-    late : (b : Bool) → leb 12618 (toZero s) ≡ b → 8 < toZero (take 12618 s)
-    late true f = omega (arith, zero-behind 12618 s (leb-true 12618 (toZero s) f))
-    late false f = omega (arith, zero-among 12618 s (leb-false 12618 (toZero s) f))
+  pub first-asked : (s : List ℕ) → asked f (take (9 + n) s) ≡ asked f s
+  first-asked s = at (leb (toZero s) 8) refl
+    where
+      at : (b : Bool) → leb (toZero s) 8 ≡ b → asked f (take (9 + n) s) ≡ asked f s
+      at true e = few-digits s (leb-true (toZero s) 8 e)
+      at false e = many-digits s (leb-false (toZero s) 8 e)
 
--- so the program reads no more of its input
+-- so planfind reads no more of its input than 12,618 bytes
 pub first-decide : (s : List ℕ) → planfind (take 12618 s) ≡ planfind s
-first-decide s = at (leb (toZero s) 8) refl
-  where
-    at : (b : Bool) → leb (toZero s) 8 ≡ b → planfind (take 12618 s) ≡ planfind s
-    at true e = few-digits s (leb-true (toZero s) 8 e)
-    at false e = many-digits s (leb-false (toZero s) 8 e)
+unfolding planfind foundIn
+first-decide = first-asked foundIn 12609 (λ m s. rw (take-take 12609 12609 s (omega arith)))
 
 -- ---- what is printed
 
@@ -267,6 +279,15 @@ pub found-in-short : (n : ℕ) (s : List ℕ) → length (foundIn n s) ≤ 2057
 unfolding foundIn
 found-in-short n s = found-short n (parted (take 12609 s))
 
+-- what is printed is never longer than the room
+pub find-fits : (out input : List ℕ) (r : Printed) (out′ : List ℕ) → Prints (findAnswer out input) out r out′ → lengthOf r ≤ length out
+unfolding findAnswer planfind
+find-fits out input r out′ P = at (leb foundRoom (length out)) refl (P .length-is)
+  where
+    at : (b : Bool) → leb foundRoom (length out) ≡ b → lengthOf r ≡ lengthTold (if b (prints (asked foundIn input)) (refusal 1 0 0)) → lengthOf r ≤ length out
+    at true e q = omega (arith, leb-true foundRoom (length out) e, asked-short foundIn input 2057 (omega arith) found-in-short)
+    at false e q = omega arith
+
 -- too little room is refusal 1
 pub find-no-room : (out input : List ℕ) → length out < 2057 → findAnswer out input ≡ refusal 1 0 0
 unfolding findAnswer
@@ -280,12 +301,10 @@ module _ (out input : List ℕ) (room : 2057 ≤ length out) where
   -- no number is asked for
   pub no-number-printed : asks input ≡ false → (n : ℕ) (out′ : List ℕ) → (n ≡ length (refusalLines 1 0 0)) × (out′ ≡ laid out 0 (refusalLines 1 0 0)) → Prints (findAnswer out input) out (Bytes n) out′
   unfolding planfind
-  no-number-printed e = bytes-printed (refusalLines 1 0 0) out (answer-is ∙ rw e)
+  no-number-printed e = bytes-printed (refusalLines 1 0 0) out (answer-is ∙ ap prints (sym (asked-none foundIn input e)))
 
   -- the number that is asked for
   pub found-printed : (m at : ℕ) → AsksFor input m at → (n : ℕ) (out′ : List ℕ) → (n ≡ length (foundIn m (take (length input - at) (drop at input)))) × (out′ ≡ laid out 0 (foundIn m (take (length input - at) (drop at input))))
       → Prints (findAnswer out input) out (Bytes n) out′
   unfolding planfind
-  found-printed m at A =
-      let rest : take (length input - at) (drop at input) ≡ behindNumber input = take-all (length input - at) (drop at input) (omega (arith, length-drop at input)) ∙ A .pages-are in
-      bytes-printed (foundIn m (take (length input - at) (drop at input))) out (answer-is ∙ rw (A .asks-one, A .number-is, rest))
+  found-printed m at A = bytes-printed (foundIn m (take (length input - at) (drop at input))) out (answer-is ∙ ap prints (sym (asked-one foundIn input m at A)))

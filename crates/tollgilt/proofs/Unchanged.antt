@@ -1,7 +1,7 @@
 -- Unchanged: "A refusal changes no lent byte or row, and no collector." One statement for each operation, about any result that meets its promise: where the answer
 -- carries a refusal's number, what was lent for writing is as it was. A collector changes where a page is added and nowhere else, so "already here" leaves it too.
--- `clear` and the empty collector refuse nothing. The missing numbers, the numbers of an answer and the cells are lent nothing for writing. The numbers `told` at the
--- border are a part of the answer: every call sets them. Of a set of pages that is refused planlist, planfresh and planfind print three lines, so there only a room
+-- `clear` and the empty collector refuse nothing. The missing numbers, the numbers of an answer and the functions of `cell` are lent nothing for writing. The numbers `told` at the
+-- border are a part of the answer: every call sets them. Of a set of pages that is refused planlist, planfresh, planfind and plancell print three lines, so there only a room
 -- too small is a refusal.
 -- Assumes nothing.
 use mathlib.Core.Path.{_≡_, refl, ap, _∙_}
@@ -41,7 +41,9 @@ use Rattle.writer.specs.declared.writing.Writing.{Writing}
 use Rattle.tollgilt.specs.Promise as Lists
 use Rattle.tollgilt.specs.Fresh as Fresh
 use Rattle.tollgilt.specs.Find as Find
+use Rattle.tollgilt.specs.Cells as Cells
 use Rattle.tollgilt.specs.Printed as Prints
+use Rattle.tollgilt.specs.declared.cells.CellShown.{CellShown}
 use Rattle.tollgilt.specs.declared.list.Listed.{Listed}
 use Rattle.tollgilt.specs.declared.find.Found.{Found}
 use Rattle.tollgilt.specs.declared.fresh.Fresh as Pages
@@ -153,6 +155,24 @@ tollgilt-find-unchanged list b ss ns n r list′ told′ P h = P .list-is ∙ no
 -- `find_input`: no byte of the room for what is printed
 pub find-input-unchanged : (out input : List ℕ) (r : Printed) (out′ : List ℕ) → Prints.Prints (Prints.findAnswer out input) out r out′ → (Prints.numbersOf r .number ≡ 0 → ⊥) → out′ ≡ out
 find-input-unchanged out input r out′ P h = P .room-is ∙ not-printed (Prints.findAnswer out input) out (λ e. h (ap (λ (t : Numbers). t .number) (P .answer-is) ∙ e))
+
+-- ---- a printed cell
+
+not-shown : (a : Cells.Answer) (out : List ℕ) → (Cells.given a .number ≡ 0 → ⊥) → Cells.roomAfter a out ≡ out
+not-shown (Cells.refusal n k i) out h = refl
+not-shown (Cells.shows s t d o m) out h = absurd (h refl)
+
+-- `cell_pages`: no byte of the room for the text
+pub cell-pages-unchanged : (out b ss ns k : List ℕ) (row n i : ℕ) (r : CellShown) (out′ : List ℕ) → Cells.Promised (Cells.answered out b ss ns k row n i) out r out′ → (r .number ≡ 0 → ⊥) → out′ ≡ out
+cell-pages-unchanged out b ss ns k row n i r out′ P h = P .room-is ∙ not-shown (Cells.answered out b ss ns k row n i) out (λ e. h (ap (λ (t : CellShown). t .number) (P .result-is) ∙ e))
+
+-- `tollgilt_cell`
+pub tollgilt-cell-unchanged : (out b ss ns k : List ℕ) (row n i r : ℕ) (out′ told′ : List ℕ) → Cells.Handed (Cells.answered out b ss ns k row n i) out r out′ told′ → (r ≡ 0 → ⊥) → out′ ≡ out
+tollgilt-cell-unchanged out b ss ns k row n i r out′ told′ P h = P .room-is ∙ not-shown (Cells.answered out b ss ns k row n i) out (λ e. h (P .number-is ∙ e))
+
+-- `cell_input`: no byte of the room for what is printed
+pub cell-input-unchanged : (out input : List ℕ) (r : Printed) (out′ : List ℕ) → Prints.Prints (Prints.cellAnswer out input) out r out′ → (Prints.numbersOf r .number ≡ 0 → ⊥) → out′ ≡ out
+cell-input-unchanged out input r out′ P h = P .room-is ∙ not-printed (Prints.cellAnswer out input) out (λ e. h (ap (λ (t : Numbers). t .number) (P .answer-is) ∙ e))
 
 -- ---- the index
 

@@ -1,4 +1,4 @@
--- Unique: the promises leave no second result: answer, length or number of rows, and room or list are determined by the call and by what was lent.
+-- Unique: the promises leave no second result: the numbers that are given, and room or list, are determined by the call and by what was lent.
 -- Assumes nothing.
 use mathlib.Core.Path.{_≡_, refl, ap, sym, _∙_}
 use mathlib.Core.List.{List}
@@ -11,6 +11,8 @@ use Rattle.reader.proofs.AnswerLaws.{told-once}
 use Rattle.tollgilt.specs.Promise.{Promised, Handed}
 use Rattle.tollgilt.specs.Fresh as Fresh
 use Rattle.tollgilt.specs.Find as Find
+use Rattle.tollgilt.specs.Cells as Cells
+use Rattle.tollgilt.specs.declared.cells.CellShown.{CellShown}
 use Rattle.tollgilt.specs.declared.list.Listed.{Listed}
 use Rattle.tollgilt.specs.declared.find.Found.{Found}
 use Rattle.tollgilt.specs.Printed as Printing
@@ -56,6 +58,15 @@ pub find-handed-once : (a : Paper.Answer) (n : ℕ) (list : List ℕ) (r₁ r₂
     → (r₁ ≡ r₂) × (list₁ ≡ list₂) × (told₁ ≡ told₂)
 find-handed-once a n list r₁ r₂ list₁ list₂ told₁ told₂ p q = (p .number-is ∙ sym (q .number-is), p .list-is ∙ sym (q .list-is), p .told-is ∙ sym (q .told-is))
 
+-- `cell_pages`
+pub cell-once : (a : Cells.Answer) (out : List ℕ) (r₁ r₂ : CellShown) (out₁ out₂ : List ℕ) → Cells.Promised a out r₁ out₁ → Cells.Promised a out r₂ out₂ → (r₁ ≡ r₂) × (out₁ ≡ out₂)
+cell-once a out r₁ r₂ out₁ out₂ p q = (p .result-is ∙ sym (q .result-is), p .room-is ∙ sym (q .room-is))
+
+-- `tollgilt_cell`
+pub cell-handed-once : (a : Cells.Answer) (out : List ℕ) (r₁ r₂ : ℕ) (out₁ out₂ told₁ told₂ : List ℕ) → Cells.Handed a out r₁ out₁ told₁ → Cells.Handed a out r₂ out₂ told₂
+    → (r₁ ≡ r₂) × (out₁ ≡ out₂) × (told₁ ≡ told₂)
+cell-handed-once a out r₁ r₂ out₁ out₂ told₁ told₂ p q = (p .number-is ∙ sym (q .number-is), p .room-is ∙ sym (q .room-is), p .told-is ∙ sym (q .told-is))
+
 -- an answer is known by its number and its length
 same-printed : (r₁ r₂ : Printed) → numbersOf r₁ ≡ numbersOf r₂ → lengthOf r₁ ≡ lengthOf r₂ → r₁ ≡ r₂
 same-printed (Bytes n) (Bytes m) e f = ap Bytes f
@@ -63,6 +74,6 @@ same-printed (Bytes n) NoRoom e f = let z : _≡_ {A = ℕ} 0 1 = ap (λ (t : Nu
 same-printed NoRoom (Bytes m) e f = let z : _≡_ {A = ℕ} 1 0 = ap (λ (t : Numbers). t .number) e in absurd (omega arith)
 same-printed NoRoom NoRoom e f = refl
 
--- `list_input`, `fresh_input` and `find_input`
+-- `list_input`, `fresh_input`, `find_input` and `cell_input`
 pub printed-once : (a : Printing.Answer) (out : List ℕ) (r₁ r₂ : Printed) (out₁ out₂ : List ℕ) → Prints a out r₁ out₁ → Prints a out r₂ out₂ → (r₁ ≡ r₂) × (out₁ ≡ out₂)
 printed-once a out r₁ r₂ out₁ out₂ p q = (same-printed r₁ r₂ (p .answer-is ∙ sym (q .answer-is)) (p .length-is ∙ sym (q .length-is)), p .room-is ∙ sym (q .room-is))

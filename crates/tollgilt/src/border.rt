@@ -1,7 +1,10 @@
 // Border: the functions that programs in C and Rust call. Only numbers and byte ranges cross it; a slice crosses as a pointer and a length.
+ghost use Rattle.tollgilt.specs.Cells as Cells;
 ghost use Rattle.tollgilt.specs.Find as Find;
 ghost use Rattle.tollgilt.specs.Fresh as Fresh;
 ghost use Rattle.tollgilt.specs.Promise.{Handed, answered};
+use crate::cells::cell_pages;
+use crate::cells::flag_number;
 use crate::find::find_pages;
 use crate::fresh::fresh_pages;
 use crate::list::list_pages;
@@ -80,4 +83,36 @@ pub extern "C" fn tollgilt_find<'a>(
     let place = refusal_place(answer);
     *told = [found.rows, page, place];
     refusal_number(answer)
+}
+
+// Lays the text of a printed cell of a call's plan into `out`, as `cell_pages` does. Returns the number of the refusal, 0 for a cell. Tells the length of the text,
+// the page and the place of the refusal, where the text comes from (1 the plan, 2 the catalogue, 0 neither), the flag that "..." follows, the mark that 0 is
+// printed, and how many bytes were left out: for a refusal all but page and place are 0, for a cell page and place are 0.
+#[no_mangle]
+pub extern "C" fn tollgilt_cell<'a>(
+    buffer: &'a [u8],
+    starts: &'a [usize],
+    lens: &'a [usize],
+    catalogue: &'a [u8],
+    row: usize,
+    field: u32,
+    which: usize,
+    out: &mut [u8],
+    told: &mut [usize; 7],
+) -> u32
+    ensures { λ r. ⌜ Cells.Handed (Cells.answered (now (out .entry)) (now (buffer .entry)) (now (starts .entry)) (now (lens .entry)) (now (catalogue .entry)) row field which) (now (out .entry)) r (now (out .exit)) (now (told .exit)) ⌝ }
+{
+    let shown = cell_pages(buffer, starts, lens, catalogue, row, field, which, out);
+    let more = flag_number(shown.more);
+    let zero = flag_number(shown.zero);
+    *told = [
+        shown.length,
+        shown.page as usize,
+        shown.place as usize,
+        shown.source as usize,
+        more as usize,
+        zero as usize,
+        shown.omitted,
+    ];
+    shown.number
 }

@@ -1,4 +1,4 @@
-// Input: what planlist, planfresh and planfind print for their input.
+// Input: what planlist, planfresh, planfind and plancell print for their input.
 ghost use mathlib.Core.Path.{_≡_};
 ghost use mathlib.Core.Bool.{true};
 ghost use mathlib.Core.List.{_∷_, []};
@@ -11,15 +11,20 @@ ghost use Rattle.paper.specs.Reading.{read};
 ghost use Rattle.markup.specs.Laid.{laid};
 ghost use Rattle.listing.specs.Written.{Wrote};
 ghost use Rattle.tollgilt.specs.Fresh.{bytesTold, pagesIn};
-ghost use Rattle.tollgilt.specs.Printed.{separated, heldLines, foundIn, Asks, listAnswer, freshAnswer, findAnswer, lengthOf, Prints};
+ghost use Rattle.tollgilt.specs.Printed.{separated, heldLines, foundIn, asked, shownLines, cellPrinted, cellBehind, Asks, listAnswer, freshAnswer, findAnswer, cellAnswer, lengthOf, Prints};
+use crate::cells::CellShown;
+use crate::cells::cell_pages;
+use crate::cells::flag_number;
 use crate::find::find_pages;
 use crate::fresh::Fresh;
 use crate::fresh::fresh_pages;
 use crate::list::list_pages;
+use cell::Cell;
 use fields::numbers::shown;
 use fields::sets::DIGIT;
 use fields::sets::all_in;
 use listing::lines::count_line;
+use listing::lines::text_line;
 use listing::pages::next_page;
 use listing::pages::split_pages;
 use listing::refusals::list_refusal;
@@ -41,6 +46,16 @@ pub const ASKING: usize = 9 + INPUT;
 
 // The room for the line `held=256`, and for 256 lines like `row=256`.
 pub const FOUND: usize = 9 + 8 * Plan::ROWS;
+
+// The longest text of a catalogue in an input.
+pub const CATALOGUE: usize = 1000;
+
+// The most bytes of an input that count where it begins with three numbers and a catalogue's text: eight digits for each number, and a zero byte behind each of the
+// four.
+pub const CELL_ASKING: usize = 28 + CATALOGUE + INPUT;
+
+// The room for the lines `source=2`, `cut=1`, `left=1000` and `zero=1`, and for the longest text in its line.
+pub const CELL_LINES: usize = 38 + Cell::SUBSTANCE;
 
 // What is printed for an input.
 pub enum Printed {
@@ -165,11 +180,11 @@ pub fn fresh_input(input: &[u8], out: &mut [u8]) -> Printed
 pub enum Question {
     // No number: there is no zero byte, or not one to eight digits before the first.
     None,
-    // That package number; the pages begin at the place.
+    // That number; what stands behind it begins at the place.
     Of { number: u32, pages: usize },
 }
 
-// The package number that an input asks for: one to eight digits before its first zero byte.
+// The number that an input asks for: one to eight digits before its first zero byte.
 fn asked_for(input: &[u8]) -> Question
     ensures { λ r. ⌜ Asks (now (input .entry)) r ⌝ }
 {
@@ -253,6 +268,121 @@ pub fn find_input(input: &[u8], out: &mut [u8]) -> Printed
         }
         Question::Of { number, pages } => {
             let length = found_in(number, &input[pages..], out);
+            Printed::Bytes(length)
+        }
+    }
+}
+
+// Prints what a cell shows into `out`: its four numbers, and its text, which a room begins with. Returns how many bytes that is. All other bytes stay.
+fn cell_lines(shown: CellShown, room: &[u8], out: &mut [u8]) -> usize
+    requires { ⌜ (shown .length ≤ length (now room)) × (shown .omitted ≤ 1000)
+        × (length (shownLines (shown .source) (shown .more) (shown .omitted) (shown .zero) (take (shown .length) (now room))) ≤ length (now out)) ⌝ }
+    ensures { λ r. ⌜ (r ≡ length (shownLines (shown .source) (shown .more) (shown .omitted) (shown .zero) (take (shown .length) (now (room .entry)))))
+        × (now (out .exit) ≡ laid (now (out .entry)) 0 (shownLines (shown .source) (shown .more) (shown .omitted) (shown .zero) (take (shown .length) (now (room .entry))))) ⌝ }
+{
+    let more = flag_number(shown.more);
+    let zero = flag_number(shown.zero);
+    let left = shown.omitted as u32;
+    let a = count_line(out, 0, b"source", shown.source);
+    let b = count_line(out, a, b"cut", more);
+    let c = count_line(out, b, b"left", left);
+    let d = count_line(out, c, b"zero", zero);
+    text_line(out, d, b"text", &room[..shown.length])
+}
+
+// Prints a cell into `out`, for pages that are parted as planlist's, or the three lines of a refusal. Returns how many bytes that is. All other bytes stay.
+fn printed_cell<'a>(
+    row: u32,
+    field: u32,
+    which: u32,
+    catalogue: &'a [u8],
+    input: &'a [u8],
+    out: &mut [u8],
+) -> usize
+    requires { ⌜ (length (now catalogue) ≤ 1000) × (118 ≤ length (now out)) ⌝ }
+    ensures { λ r. ⌜ (r ≡ length (cellPrinted row field which (now (catalogue .entry)) (now (input .entry))))
+        × (now (out .exit) ≡ laid (now (out .entry)) 0 (cellPrinted row field which (now (catalogue .entry)) (now (input .entry)))) ⌝ }
+{
+    let parts = split(input);
+    let k = parts.pages;
+    let starts = parts.starts;
+    let lens = parts.lens;
+    let line = row as usize;
+    let third = which as usize;
+    let mut room = [0u8; Cell::SUBSTANCE];
+    let shown = cell_pages(
+        input,
+        &starts[..k],
+        &lens[..k],
+        catalogue,
+        line,
+        field,
+        third,
+        &mut room,
+    );
+    let refusal = shown.number;
+    if refusal == 0 {
+        return cell_lines(shown, &room, out);
+    }
+    list_refusal(refusal, shown.page, shown.place, out)
+}
+
+// Prints a cell into `out`, where the catalogue's text, a zero byte and pages are left of the input. Returns how many bytes that is. All other bytes stay.
+fn cell_behind(row: u32, field: u32, which: u32, input: &[u8], out: &mut [u8]) -> usize
+    requires { ⌜ 118 ≤ length (now out) ⌝ }
+    ensures { λ r. ⌜ (r ≡ length (cellBehind row field which (now (input .entry)))) × (now (out .exit) ≡ laid (now (out .entry)) 0 (cellBehind row field which (now (input .entry)))) ⌝ }
+{
+    let end = next_page(input, 0);
+    if end >= input.len() {
+        return list_refusal(1, 0, 0, out);
+    }
+    if end > CATALOGUE {
+        return list_refusal(1, 0, 0, out);
+    }
+    printed_cell(row, field, which, &input[..end], &input[end + 1..], out)
+}
+
+// The same where the input still asks for which of three.
+fn third_asked(row: u32, field: u32, input: &[u8], out: &mut [u8]) -> usize
+    requires { ⌜ 118 ≤ length (now out) ⌝ }
+    ensures { λ r. ⌜ (r ≡ length (asked (cellBehind row field) (now (input .entry)))) × (now (out .exit) ≡ laid (now (out .entry)) 0 (asked (cellBehind row field) (now (input .entry)))) ⌝ }
+{
+    let asked = asked_for(input);
+    match asked {
+        Question::None => list_refusal(1, 0, 0, out),
+        Question::Of { number, pages } => { cell_behind(row, field, number, &input[pages..], out) }
+    }
+}
+
+// The same where it still asks for the field.
+fn field_asked(row: u32, input: &[u8], out: &mut [u8]) -> usize
+    requires { ⌜ 118 ≤ length (now out) ⌝ }
+    ensures { λ r. ⌜ (r ≡ length (asked (λ n. asked (cellBehind row n)) (now (input .entry)))) × (now (out .exit) ≡ laid (now (out .entry)) 0 (asked (λ n. asked (cellBehind row n)) (now (input .entry)))) ⌝ }
+{
+    let asked = asked_for(input);
+    match asked {
+        Question::None => list_refusal(1, 0, 0, out),
+        Question::Of { number, pages } => third_asked(row, number, &input[pages..], out),
+    }
+}
+
+// What plancell prints for its input: what the cell shows that the input asks for, or the three lines of a refusal. It is laid at the beginning of `out`. The input
+// is the row's number, the field's, and which of three, each with a zero byte behind it, the catalogue's text for the cell, at most 1,000 bytes, a zero byte, and
+// pages as planlist takes them; one that does not ask so is refusal 1. A room of less than 118 bytes is refusal 1, and stays as it was.
+pub fn cell_input(input: &[u8], out: &mut [u8]) -> Printed
+    ensures { λ r. ⌜ Prints (cellAnswer (now (out .entry)) (now (input .entry))) (now (out .entry)) r (now (out .exit)) ⌝ }
+{
+    if out.len() < CELL_LINES {
+        return Printed::NoRoom;
+    }
+    let asked = asked_for(input);
+    match asked {
+        Question::None => {
+            let length = list_refusal(1, 0, 0, out);
+            Printed::Bytes(length)
+        }
+        Question::Of { number, pages } => {
+            let length = field_asked(number, &input[pages..], out);
             Printed::Bytes(length)
         }
     }
