@@ -10,7 +10,7 @@ use crate::Reading;
 pub const RECORD: usize = 48;
 
 /// How many of a record's 19 spans belong to the row itself, not to its substances.
-const OWN: usize = 13;
+pub const OWN: usize = 13;
 
 fn numbers_of(spans: &[Span]) -> impl Iterator<Item = u32> + '_ {
     spans

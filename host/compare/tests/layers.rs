@@ -3,7 +3,7 @@
 use compare::indexing::Tally;
 use compare::packages;
 use compare::rounds::{differences, set, tables};
-use inputs::vectors::{carried, named};
+use inputs::vectors::{carried, carried_cells, named, named_cells};
 
 #[test]
 fn bytes_elements_and_fields_are_what_the_second_program_says() {
@@ -37,6 +37,10 @@ fn no_layer_differs_from_the_second_program_on_the_vectors() {
     let mut found = Vec::new();
     for vector in carried().iter().chain(&named()) {
         set(&format!("line {}", vector.line), &vector.pages, &mut found);
+    }
+    for vector in carried_cells().iter().chain(&named_cells()) {
+        let title = format!("line {}, of a cell", vector.line);
+        set(&title, &vector.pages, &mut found);
     }
     assert_eq!(found, Vec::<String>::new());
 }

@@ -1,8 +1,9 @@
 //! Writing, the collector and the cells against the second program, on the vectors and a bounded number of seeds; the binary `compare` runs more.
 
+use compare::indexing::Tally;
 use compare::{cells, collecting, writing};
 use inputs::case;
-use inputs::vectors::{carried, named};
+use inputs::vectors::{carried, carried_cells, named, named_cells};
 
 /// The first differences.
 fn some(found: impl Iterator<Item = String>) -> Vec<String> {
@@ -45,7 +46,14 @@ fn the_cells_of_the_vectors_are_what_the_second_program_shows() {
             found.extend(cells::all(&format!("line {}", vector.line), &numbers));
         }
     }
-    assert_eq!(found, Vec::<String>::new());
+    assert_eq!(some(found.into_iter()), Vec::<String>::new());
+}
+
+#[test]
+fn the_vectors_of_a_cell_are_shown_as_they_say() {
+    let vectors = carried_cells().into_iter().chain(named_cells());
+    let found = vectors.flat_map(|vector| cells::vector(&vector));
+    assert_eq!(some(found), Vec::<String>::new());
 }
 
 #[test]
@@ -84,6 +92,13 @@ fn a_collector_answers_as_the_second_program_does() {
 
 #[test]
 fn cells_show_what_the_second_program_shows() {
-    let found = (0..300).flat_map(|seed| cells::differences(seed).1);
+    let mut tally = Tally::new();
+    let found = (0..300).flat_map(|seed| cells::differences(seed, &mut tally));
     assert_eq!(some(found), Vec::<String>::new());
+    let cuts = ["whole", "cut", "cut before a blank"];
+    let shown = cuts.map(|cut| [format!("own, {cut}"), format!("catalogue's, {cut}")]);
+    let others = ["neither, whole".to_string(), "refused".to_string()];
+    for what in shown.as_flattened().iter().chain(&others) {
+        assert!(tally.get(what) > Some(&50), "{what} in {tally:?}");
+    }
 }

@@ -109,16 +109,7 @@ pub fn find_input(seed: u64) -> Vec<u8> {
     let mut random = Random::new(seed ^ 0xF19D);
     let Sheets { pages, numbers, .. } = sheets(seed);
     let number = number_text(*random.pick(&numbers), &mut random);
-    let mut pages = match random.below(12) {
-        0 | 1 => nine_full(&mut random),
-        _ => joined(&pages),
-    };
-    match random.below(10) {
-        0 => pages.push(*random.pick(b"\0 <")),
-        1 => pages.extend(vec![*random.pick(b"\0 <"); random.between(2, 300)]),
-        2 => pages.extend(b" \0"),
-        _ => {}
-    }
+    let pages = pages_text(&pages, &mut random);
     match random.below(40) {
         0 => number,
         1 => pages,
@@ -127,7 +118,22 @@ pub fn find_input(seed: u64) -> Vec<u8> {
     }
 }
 
-/// A number as planfind takes it, at times with zeros before it, or as it does not.
+/// Pages as planfind and plancell take them behind what they are asked: mostly these, at times nine full ones, or something behind them.
+pub fn pages_text(pages: &[Vec<u8>], random: &mut Random) -> Vec<u8> {
+    let mut pages = match random.below(12) {
+        0 | 1 => joined(&nine_full(random)),
+        _ => joined(pages),
+    };
+    match random.below(10) {
+        0 => pages.push(*random.pick(b"\0 <")),
+        1 => pages.extend(vec![*random.pick(b"\0 <"); random.between(2, 300)]),
+        2 => pages.extend(b" \0"),
+        _ => {}
+    }
+    pages
+}
+
+/// A number as planfind and plancell take it, at times with zeros before it, or as they do not.
 pub fn number_text(number: u32, random: &mut Random) -> Vec<u8> {
     let text = match random.below(30) {
         0 => String::new(),
@@ -150,7 +156,7 @@ pub fn number_text(number: u32, random: &mut Random) -> Vec<u8> {
 }
 
 /// Nine sheets of a plan with package numbers, each filled up with blanks to 1,400 bytes: 12,608 bytes with the zero bytes between them.
-fn nine_full(random: &mut Random) -> Vec<u8> {
+pub fn nine_full(random: &mut Random) -> Vec<Vec<u8>> {
     let number = package(random);
     let page = |a: usize| {
         let rows = format!("<M p='{number}'/>").repeat(random.between(0, 3));
@@ -162,7 +168,7 @@ fn nine_full(random: &mut Random) -> Vec<u8> {
         page.resize(1_400, b' ');
         page
     };
-    (1..=9).map(page).collect::<Vec<_>>().join(&0)
+    (1..=9).map(page).collect()
 }
 
 impl Asked {
@@ -530,7 +536,7 @@ fn held_by(row: &Element) -> [u32; 2] {
 }
 
 /// A plan whose rows are mostly medications with package numbers, at times all of them.
-fn package_plan(random: &mut Random) -> Plan {
+pub(crate) fn package_plan(random: &mut Random) -> Plan {
     let fullness = Fullness {
         ink: Ink::Plain,
         longest: 0,

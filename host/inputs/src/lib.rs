@@ -4,6 +4,7 @@
 //! plan and its own table of fields, so that a mistake in a reader is not repeated in the inputs it is tried with.
 
 pub mod case;
+pub mod cell;
 pub mod cut;
 pub mod damage;
 pub mod disguise;
@@ -21,6 +22,7 @@ pub mod values;
 pub mod vectors;
 
 pub use case::{case, kinds, meant_listing, meant_refusal, Case};
+pub use cell::{cell_input, cell_text};
 pub use fields::FIELDS;
 pub use garbage::bytes_like_page;
 pub use numbers::{numbers, Numbers};
@@ -29,7 +31,7 @@ pub use references::raw_value;
 pub use sequence::{sequence, Step};
 pub use values::value_near;
 
-/// The pages with one zero byte between them, as the programs planlist and planfresh read them, and planfind behind its number.
+/// The pages with one zero byte between them, as the programs planlist and planfresh read them, and planfind and plancell behind what they are asked.
 pub fn joined(pages: &[Vec<u8>]) -> Vec<u8> {
     pages.join(&0)
 }

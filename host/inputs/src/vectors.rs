@@ -1,7 +1,11 @@
-//! Answered cases from a file: what planlist prints for a set of pages, and its fresh pages or the writer's refusal; and what an index of package numbers answers.
+//! Answered cases from a file: what planlist prints for a set of pages, and its fresh pages or the writer's refusal; what an index of package numbers answers;
+//! and what a cell shows.
 
 use std::fs::read_to_string;
 use std::path::{Path, PathBuf};
+
+use crate::cell::asking;
+use crate::joined;
 
 /// One case: its line in the file, its kind, its pages, what planlist prints, and the fresh pages or the number, page and place of the refusal.
 pub struct Vector {
@@ -34,9 +38,63 @@ pub enum Kth {
     Absent,
 }
 
-/// The columns of a case of pages, and of one of an index.
-const COLUMNS: usize = 4;
-const INDEX_COLUMNS: usize = 8;
+/// One case of a cell: its line in the file, its kind, its pages, the row counted from 1, the number of the field (0 for one that no cell shows), which of
+/// three, and the catalogue's text; and what is shown or a refusal.
+pub struct CellVector {
+    pub line: usize,
+    pub kind: String,
+    pub pages: Vec<Vec<u8>>,
+    pub row: usize,
+    pub field: usize,
+    pub which: usize,
+    pub catalogue: Vec<u8>,
+    pub shown: Result<ShownCell, [usize; 3]>,
+}
+
+impl CellVector {
+    /// The same case as an input of plancell.
+    pub fn input(&self) -> Vec<u8> {
+        let numbers = [self.row, self.field, self.which].map(|number| number.to_string());
+        let numbers = numbers.each_ref().map(String::as_bytes);
+        asking(numbers, &self.catalogue, &joined(&self.pages))
+    }
+}
+
+/// What a cell shows: its text and where that comes from, whether it is cut, whether 0 is printed, and how many bytes are left out.
+#[derive(Clone, Debug, PartialEq, Eq)]
+pub struct ShownCell {
+    pub text: Vec<u8>,
+    pub source: Source,
+    pub cut: bool,
+    pub zero: bool,
+    pub left_out: usize,
+}
+
+/// Whose a cell's text is; an empty one is nobody's.
+#[derive(Clone, Copy, Debug, PartialEq, Eq)]
+pub enum Source {
+    Plan,
+    Catalogue,
+    None,
+}
+
+/// The fields that a cell shows, numbered from 1: four with a limit, the four times of day, and the dose as free text.
+const FIELDS: [&str; 9] = [
+    "name",
+    "substance",
+    "strength",
+    "form",
+    "m",
+    "d",
+    "v",
+    "h",
+    "t",
+];
+
+/// The columns of a case of pages, of one of an index, and of one of a cell, which has fewer if it is refused.
+const COLUMNS: [usize; 1] = [4];
+const INDEX_COLUMNS: [usize; 1] = [8];
+const CELL_COLUMNS: [usize; 2] = [7, 11];
 
 /// The lines of a file of cases, numbered and taken apart.
 fn lines(path: &Path) -> Vec<(usize, Vec<String>)> {
@@ -86,6 +144,54 @@ fn index_vector(line: usize, columns: &[String], bytes: fn(&str) -> Vec<u8>) -> 
             "none" => Kth::None,
             _ => Kth::Row(whole(line, kth)),
         }),
+    }
+}
+
+/// A case of a cell; `bytes` reads one page or text in the file's form.
+fn cell_vector(line: usize, columns: &[String], bytes: fn(&str) -> Vec<u8>) -> CellVector {
+    let [kind, pages, row, field, which, catalogue, text, rest @ ..] = columns else {
+        panic!("line {line} has {} columns", columns.len());
+    };
+    CellVector {
+        line,
+        kind: kind.clone(),
+        pages: pages.split(',').map(bytes).collect(),
+        row: whole(line, row) as usize,
+        field: FIELDS
+            .iter()
+            .position(|name| name == field)
+            .map_or(0, |at| at + 1),
+        which: whole(line, which) as usize,
+        catalogue: bytes(catalogue),
+        shown: answer(line, text, |text| shown(line, bytes(text), rest)),
+    }
+}
+
+/// What is shown with a text, as the columns behind the text say.
+fn shown(line: usize, text: Vec<u8>, columns: &[String]) -> ShownCell {
+    let [source, cut, zero, left_out] = columns else {
+        panic!("line {line} has {} columns behind a text", columns.len());
+    };
+    ShownCell {
+        text,
+        source: match source.as_str() {
+            "plan" => Source::Plan,
+            "catalogue" => Source::Catalogue,
+            "none" => Source::None,
+            _ => panic!("line {line} has {source:?} for whose text it is"),
+        },
+        cut: mark(line, cut),
+        zero: mark(line, zero),
+        left_out: whole(line, left_out) as usize,
+    }
+}
+
+/// A mark that is set or not, 1 or 0.
+fn mark(line: usize, text: &str) -> bool {
+    match whole(line, text) {
+        0 => false,
+        1 => true,
+        other => panic!("line {line} has {other} for a mark"),
     }
 }
 
@@ -155,47 +261,67 @@ fn beside(name: &str) -> PathBuf {
         .join(name)
 }
 
-/// The lines of the file that the environment variable TOLLGILT_VECTORS names which have so many columns; none if it names no file.
-fn named_lines(columns: usize) -> Vec<(usize, Vec<String>)> {
+/// The lines of the file that the environment variable TOLLGILT_VECTORS names which have one of these counts of columns; none if it names no file.
+fn named_lines(columns: &[usize]) -> Vec<(usize, Vec<String>)> {
     let Some(path) = std::env::var_os("TOLLGILT_VECTORS").map(PathBuf::from) else {
         return Vec::new();
     };
     let mut found = lines(&path);
     assert!(!found.is_empty(), "{} has no vectors", path.display());
+    let known = [&COLUMNS[..], &INDEX_COLUMNS, &CELL_COLUMNS].concat();
     for (line, found) in &found {
-        let known = [COLUMNS, INDEX_COLUMNS].contains(&found.len());
-        assert!(known, "line {line} has {} columns", found.len());
+        let count = found.len();
+        assert!(known.contains(&count), "line {line} has {count} columns");
     }
-    found.retain(|(_, found)| found.len() == columns);
+    found.retain(|(_, found)| columns.contains(&found.len()));
     found
 }
 
-/// The cases of pages that the repository carries, in the form of [`readable`].
+/// Reads one line's case, with what reads bytes in the form of its file.
+type Reader<T> = fn(usize, &[String], fn(&str) -> Vec<u8>) -> T;
+
+/// The cases of a file that the repository carries, in the form of [`readable`].
+fn carried_cases<T>(name: &str, read: Reader<T>) -> Vec<T> {
+    let lines = lines(&beside(name)).into_iter();
+    let case = |(line, columns): (usize, Vec<String>)| read(line, &columns, readable);
+    lines.map(case).collect()
+}
+
+/// The cases of the named file with one of these counts of columns, in the form of [`hexadecimal`].
+fn named_cases<T>(columns: &[usize], read: Reader<T>) -> Vec<T> {
+    let lines = named_lines(columns).into_iter();
+    let case = |(line, columns): (usize, Vec<String>)| read(line, &columns, hexadecimal);
+    lines.map(case).collect()
+}
+
+/// The cases of pages that the repository carries.
 pub fn carried() -> Vec<Vector> {
-    let lines = lines(&beside("sheets.tsv")).into_iter();
-    let read = |(line, columns): (usize, Vec<String>)| vector(line, &columns, readable);
-    lines.map(read).collect()
+    carried_cases("sheets.tsv", vector)
 }
 
-/// The cases of pages in the named file, in the form of [`hexadecimal`]: its lines of four columns.
+/// The cases of pages in the named file.
 pub fn named() -> Vec<Vector> {
-    let lines = named_lines(COLUMNS).into_iter();
-    let read = |(line, columns): (usize, Vec<String>)| vector(line, &columns, hexadecimal);
-    lines.map(read).collect()
+    named_cases(&COLUMNS, vector)
 }
 
-/// The cases of an index that the repository carries, in the form of [`readable`].
+/// The cases of an index that the repository carries.
 pub fn carried_index() -> Vec<IndexVector> {
-    let lines = lines(&beside("index.tsv")).into_iter();
-    let read = |(line, columns): (usize, Vec<String>)| index_vector(line, &columns, readable);
-    lines.map(read).collect()
+    carried_cases("index.tsv", index_vector)
 }
 
-/// The cases of an index in the named file, in the form of [`hexadecimal`]: its lines of eight columns.
+/// The cases of an index in the named file.
 pub fn named_index() -> Vec<IndexVector> {
-    let lines = named_lines(INDEX_COLUMNS).into_iter();
-    let read = |(line, columns): (usize, Vec<String>)| index_vector(line, &columns, hexadecimal);
-    lines.map(read).collect()
+    named_cases(&INDEX_COLUMNS, index_vector)
+}
+
+/// The cases of a cell that the repository carries.
+pub fn carried_cells() -> Vec<CellVector> {
+    carried_cases("cells.tsv", cell_vector)
+}
+
+/// The cases of a cell in the named file.
+pub fn named_cells() -> Vec<CellVector> {
+    named_cases(&CELL_COLUMNS, cell_vector)
 }
 
 #[cfg(test)]
@@ -232,6 +358,38 @@ mod tests {
         assert_eq!((stale.held, stale.kth), (Err([20, 0, 0]), Err([20, 0, 0])));
         let absent = read("right\t3c\t-\t-\t17\t0\tabsent\tabsent");
         assert_eq!(absent.kth, Ok(Kth::Absent));
+    }
+
+    #[test]
+    fn a_case_of_a_cell_is_read() {
+        let read = |line: &str| cell_vector(1, &columns(line), hexadecimal);
+        let cut = read("cut\t3c,4d\t2\tstrength\t3\t61206220\t6120\tcatalogue\t1\t0\t2");
+        assert_eq!(cut.pages, [b"<", b"M"]);
+        assert_eq!((cut.row, cut.field, cut.which), (2, 3, 3));
+        assert_eq!(cut.catalogue, b"a b ");
+        let shown = ShownCell {
+            text: b"a ".to_vec(),
+            source: Source::Catalogue,
+            cut: true,
+            zero: false,
+            left_out: 2,
+        };
+        assert_eq!(cut.shown, Ok(shown));
+        let empty = ShownCell {
+            text: Vec::new(),
+            source: Source::None,
+            cut: false,
+            zero: true,
+            left_out: 0,
+        };
+        let time = read("whole\t3c\t1\td\t0\t-\t-\tnone\t0\t1\t0");
+        assert_eq!((time.field, time.shown), (6, Ok(empty)));
+        let own = read("whole\t3c\t1\tt\t0\t-\t61\tplan\t0\t0\t0");
+        let source = own.shown.map(|shown| shown.source);
+        assert_eq!((own.field, source), (9, Ok(Source::Plan)));
+        assert_eq!(cut.input(), b"2\x003\x003\0a b \0<\0M");
+        let refused = read("whole\t3c\t1\tdu\t0\t-\t!1.0.0");
+        assert_eq!((refused.field, refused.shown), (0, Err([1, 0, 0])));
     }
 
     #[test]

@@ -1,27 +1,18 @@
 //! The laws of the index: its answers are those that the rows themselves, or the listing of the same sheets, show without an index.
 
-use super::{demand, Verdict};
+use super::{demand, number_of, Answers, Verdict, REFUSED_WITH_1};
 use inputs::index::{asked, find_input, sheets, Asked, Sheets};
 use inputs::numbers::RECORD;
 use second::index::{build, Held, Kth, Lent};
 use second::layout::RowNumbers;
 use second::{find, index_of, lay, planfind, planlist, read, refusal_lines, Pair, Refusal};
-use std::collections::BTreeMap;
 
 const MOST_ROWS: usize = 256;
-const REFUSED_WITH_1: Refusal = Refusal {
-    number: 1,
-    page: 0,
-    place: 0,
-};
 const REFUSED_WITH_20: Refusal = Refusal {
     number: 20,
     page: 0,
     place: 0,
 };
-
-/// How often each answer was given.
-pub type Answers = BTreeMap<&'static str, usize>;
 
 /// Tries every law on the index and the sheets of one seed, and counts the answers.
 pub fn check(seed: u64, answers: &mut Answers) -> Verdict {
@@ -46,16 +37,16 @@ fn row_of(record: &[u32]) -> RowNumbers {
 }
 
 /// The package number of a record, where it is one of a medication.
-fn number_of(record: &[u32]) -> Option<u32> {
+fn package_of(record: &[u32]) -> Option<u32> {
     (record[0] == 2 && record[1] != 0).then_some(record[1])
 }
 
 /// Whether pairs are the index of records: there are as many as records with a number, each is greater than the one before, and each names its row.
 fn is_index(pairs: &[Pair], records: &[&[u32]]) -> bool {
-    let numbered = records.iter().filter_map(|record| number_of(record));
+    let numbered = records.iter().filter_map(|record| package_of(record));
     let named = |pair: &Pair| {
         let record = pair.row.checked_sub(1).and_then(|at| records.get(at));
-        record.is_some_and(|record| number_of(record) == Some(pair.number))
+        record.is_some_and(|record| package_of(record) == Some(pair.number))
     };
     let greater = |two: &[Pair]| (two[0].number, two[0].row) < (two[1].number, two[1].row);
     pairs.len() == numbered.count() && pairs.iter().all(named) && pairs.windows(2).all(greater)
@@ -103,7 +94,7 @@ fn questions_are_answered_by_the_rows(asked: &Asked, answers: &mut Answers) -> V
     };
     let fault = fault(asked, &records, &pairs);
     for [number, k] in &asked.questions {
-        let holds = |row: &usize| number_of(records[row - 1]) == Some(*number);
+        let holds = |row: &usize| package_of(records[row - 1]) == Some(*number);
         let all = fault
             .clone()
             .map(|()| (1..=count).filter(holds).collect::<Vec<_>>());
@@ -187,10 +178,7 @@ fn sheets_are_indexed_as_meant(sheets: &Sheets, answers: &mut Answers) -> Verdic
 /// Planfind prints the rows that planlist's lines show, or planlist's refusal, or 1 where no number stands first.
 fn planfind_prints_what_planlist_shows(input: &[u8], answers: &mut Answers) -> Verdict {
     let mut parts = input.splitn(2, |byte| *byte == 0);
-    let digits = parts.next().and_then(|text| std::str::from_utf8(text).ok());
-    let digits =
-        digits.filter(|text| text.len() <= 8 && text.bytes().all(|byte| byte.is_ascii_digit()));
-    let number: Option<u32> = digits.and_then(|text| text.parse().ok());
+    let number = parts.next().and_then(number_of);
     let (what, right) = match (number, parts.next().map(planlist)) {
         (Some(_), Some(listing)) if listing.starts_with(b"refused=") => {
             ("planfind refuses pages", listing)

@@ -1,5 +1,6 @@
 //! The laws that the second program keeps for every input. Each law is one function that says what it found wrong.
 
+mod cell;
 mod index;
 
 use inputs::{joined, meant_listing, meant_refusal, Case, Random};
@@ -12,11 +13,19 @@ use std::panic::{catch_unwind, AssertUnwindSafe};
 /// What a law says: nothing, or what went wrong.
 type Verdict = Result<(), String>;
 
+/// How often each answer to a question was given.
+pub type Answers = BTreeMap<&'static str, usize>;
+
 const MOST_PAGES: usize = 9;
 const LONGEST_PAGE: usize = 1_400;
 const LONGEST_TEXT: usize = 12_600;
 const LONGEST_LISTING: usize = 25_200;
 const LONGEST_INPUT: usize = 12_609;
+const REFUSED_WITH_1: Refusal = Refusal {
+    number: 1,
+    page: 0,
+    place: 0,
+};
 
 /// The search over all cuts takes long for many rows, so longer plans go through it in one case of sixteen.
 const SEARCHED_ROWS: usize = 30;
@@ -38,8 +47,8 @@ pub struct Tally {
     pub answers: BTreeMap<u8, usize>,
     /// Undamaged cases, and how many of them were read.
     pub undamaged: (usize, usize),
-    /// What was answered of an index, and how often.
-    pub index: index::Answers,
+    /// What was answered of an index and of a cell, and how often.
+    pub asked: Answers,
     /// Each seed that failed, with what went wrong.
     pub failures: Vec<(u64, String)>,
     /// Cases that kept every law.
@@ -54,7 +63,8 @@ pub fn run(first: u64, count: u64) -> Tally {
         let case = inputs::case(seed);
         *tally.kinds.entry(case.what).or_default() += 1;
         let checked = catch_unwind(AssertUnwindSafe(|| {
-            index::check(seed, &mut tally.index)?;
+            index::check(seed, &mut tally.asked)?;
+            cell::check(seed, &mut tally.asked)?;
             check(&case, &earlier)
         }));
         match checked.unwrap_or_else(|_| Err("no answer but a panic".to_string())) {
@@ -122,6 +132,13 @@ fn check_accepted(case: &Case, plan: Plan, earlier: &Option<Accepted>) -> Result
 
 fn slices(pages: &[Vec<u8>]) -> Vec<&[u8]> {
     pages.iter().map(Vec::as_slice).collect()
+}
+
+/// The number that a text of one to eight digits is.
+fn number_of(text: &[u8]) -> Option<u32> {
+    let digits = std::str::from_utf8(text).ok()?;
+    let right = digits.len() <= 8 && digits.bytes().all(|byte| byte.is_ascii_digit());
+    digits.parse().ok().filter(|_| right)
 }
 
 fn demand(kept: bool, fault: impl Fn() -> String) -> Verdict {

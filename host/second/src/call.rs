@@ -1,5 +1,6 @@
 //! The calls with lent rooms: pages as ranges of one buffer, and refusal 1.
 
+use crate::cell::{cell_of, Cell};
 use crate::collector::{Answer, Collector};
 use crate::index::{find, index_of, Pair};
 use crate::join::read;
@@ -7,7 +8,7 @@ use crate::layout::{lay, write_numbers, HeadNumbers, Numbers, RowNumbers};
 use crate::listing::listing;
 use crate::plan::Refusal;
 use crate::writer::write;
-use crate::{LISTING_ROOM, MOST_PAGES, MOST_PAIRS, MOST_ROWS, PAGE_ROOM, TEXT_ROOM};
+use crate::{CELL_ROOM, LISTING_ROOM, MOST_PAGES, MOST_PAIRS, MOST_ROWS, PAGE_ROOM, TEXT_ROOM};
 
 /// Refusal 1, which has neither page nor place.
 fn one() -> Refusal {
@@ -91,6 +92,23 @@ pub fn find_call(
         return Err(one());
     }
     find(&pages, number)
+}
+
+/// Shows a cell of the plan of pages, which row, field and which of three name, with this
+/// catalogue, into lent room.
+pub fn cell_call(
+    buffer: &[u8],
+    starts: &[usize],
+    lengths: &[usize],
+    catalogue: &[u8],
+    [row, field, which]: [usize; 3],
+    text_room: usize,
+) -> Result<Cell<Vec<u8>>, Refusal> {
+    let pages = pages_of(buffer, starts, lengths)?;
+    if text_room < CELL_ROOM {
+        return Err(one());
+    }
+    cell_of(&pages, catalogue, row, field, which)
 }
 
 /// Lists pages into lent room.

@@ -1,4 +1,4 @@
-//! The independent second program: document 01, with requests 1 and 2 of document 02, in
+//! The independent second program: document 01, with requests 1, 2 and 4 of document 02, in
 //! plain Rust, to be read beside them.
 //!
 //! The modules follow the paper from top to bottom: [`class`] and [`markup`] hold
@@ -25,11 +25,12 @@ pub mod tags;
 pub mod value;
 pub mod writer;
 
+pub use cell::cell_of;
 pub use collector::{Answer, Collector};
 pub use index::{find, index_of, Pair};
 pub use join::read;
 pub use layout::{lay, write_numbers};
-pub use listing::{listing, planfind, planfresh, planlist, refusal_lines};
+pub use listing::{listing, plancell, planfind, planfresh, planlist, refusal_lines};
 pub use plan::{Head, Plan, Refusal, Row, RowKind, Values};
 pub use writer::{cut_exists, write};
 
@@ -47,5 +48,10 @@ pub const TEXT_ROOM: usize = 12_600;
 pub const PAGE_ROOM: usize = 12_600;
 /// The room for a listing of pages.
 pub const LISTING_ROOM: usize = 25_200;
-/// The bytes that planlist and planfresh read at most, and planfind behind its number.
+/// The room for the text of a cell, the longest limit of one.
+pub const CELL_ROOM: usize = 80;
+/// The bytes that planlist and planfresh read at most, and planfind and plancell behind what
+/// they are asked.
 pub const INPUT_BYTES: usize = 12_609;
+/// The bytes of a catalogue's text that plancell takes at most.
+pub const CATALOGUE_BYTES: usize = 1_000;

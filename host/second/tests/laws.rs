@@ -12,14 +12,22 @@ const SEEDS: u64 = 1_500;
 /// Seeds over which each answer must have its share.
 const SHARED_SEEDS: u64 = 8_000;
 
-/// What may be answered of an index.
-const INDEX_ANSWERS: [&str; 13] = [
+/// What may be answered of an index and of a cell.
+const ASKED_ANSWERS: [&str; 21] = [
     "absent",
     "building 1",
     "built",
     "found in sheets",
     "none",
     "not found in sheets",
+    "plancell cuts the catalogue's text",
+    "plancell prints 0",
+    "plancell refuses pages",
+    "plancell refuses the cell",
+    "plancell refuses what is asked",
+    "plancell shows nothing",
+    "plancell shows the catalogue's text",
+    "plancell shows the plan's text",
     "planfind finds",
     "planfind refuses pages",
     "planfind refuses the number",
@@ -54,11 +62,11 @@ fn every_law_holds_over_the_first_seeds() {
     );
     assert_eq!(tally.answers.values().sum::<usize>() as u64, SEEDS);
     assert_eq!(
-        tally.index.keys().copied().collect::<Vec<_>>(),
-        INDEX_ANSWERS
+        tally.asked.keys().copied().collect::<Vec<_>>(),
+        ASKED_ANSWERS
     );
     let share = |count: &usize| *count as u64 > SEEDS / 20;
-    assert!(tally.index.values().all(share), "{:?}", tally.index);
+    assert!(tally.asked.values().all(share), "{:?}", tally.asked);
 }
 
 fn sorted_kinds() -> Vec<&'static str> {

@@ -1,8 +1,10 @@
-//! The vectors that the repository carries: every listing, every fresh page and every answer of an index as written there.
+//! The vectors that the repository carries: every listing, every fresh page, every answer of an index and every cell as written there.
 
-use inputs::vectors::{carried, carried_index, named, named_index, IndexVector, Kth, Vector};
+use inputs::vectors::{carried, carried_cells, carried_index, named, named_cells, named_index};
+use inputs::vectors::{CellVector, IndexVector, Kth, ShownCell, Source, Vector};
 use second::index::{Held, Lent};
-use second::{find, index_of, lay, planfind, planlist, read, write, Pair, Refusal};
+use second::{cell_of, find, index_of, lay, plancell, planfind, planlist, read, write};
+use second::{Pair, Refusal};
 use std::collections::BTreeSet;
 
 /// The kinds of case that the vectors have.
@@ -29,6 +31,9 @@ const KINDS: [&str; 16] = [
 const INDEX_KINDS: [&str; 10] = [
     "empty", "foreign", "last", "missing", "number", "right", "row", "swapped", "twice", "zero",
 ];
+
+/// The kinds of case that the vectors of a cell have.
+const CELL_KINDS: [&str; 2] = ["cut", "whole"];
 
 /// What is wrong with the answers to one case, if anything is.
 fn faults(vector: &Vector) -> Vec<String> {
@@ -127,6 +132,70 @@ fn index_faults(vector: &IndexVector) -> Vec<String> {
         .collect()
 }
 
+/// What a vector's cell shows, or the refusal.
+fn shown_cell(vector: &CellVector) -> Result<ShownCell, [usize; 3]> {
+    let pages: Vec<&[u8]> = vector.pages.iter().map(Vec::as_slice).collect();
+    let CellVector {
+        catalogue,
+        row,
+        field,
+        which,
+        ..
+    } = vector;
+    let cell = cell_of(&pages, catalogue, *row, *field, *which).map_err(numbers)?;
+    Ok(ShownCell {
+        text: cell.text,
+        source: match cell.source {
+            second::cell::Source::Neither => Source::None,
+            second::cell::Source::Plan => Source::Plan,
+            second::cell::Source::Catalogue => Source::Catalogue,
+        },
+        cut: cell.dots,
+        zero: cell.zero,
+        left_out: cell.left_out,
+    })
+}
+
+/// What plancell must print for a vector.
+fn printed_cell(vector: &CellVector) -> Vec<u8> {
+    let ShownCell {
+        text,
+        source,
+        cut,
+        zero,
+        left_out,
+    } = match &vector.shown {
+        Ok(shown) => shown,
+        Err([number, page, place]) => {
+            return format!("refused={number}\npage={page}\nplace={place}\n").into_bytes()
+        }
+    };
+    let source = match source {
+        Source::None => 0,
+        Source::Plan => 1,
+        Source::Catalogue => 2,
+    };
+    let [cut, zero] = [cut, zero].map(|mark| u8::from(*mark));
+    let lines = format!("source={source}\ncut={cut}\nleft={left_out}\nzero={zero}\ntext=");
+    [lines.as_bytes(), text, b"\n"].concat()
+}
+
+/// What is wrong with the cell of one case, if anything is.
+fn cell_faults(vector: &CellVector) -> Vec<String> {
+    let mut faults = Vec::new();
+    let place = format!("line {} ({})", vector.line, vector.kind);
+    let (given, right) = (shown_cell(vector), &vector.shown);
+    if given != *right {
+        faults.push(format!("{place}: {given:?} but must be {right:?}"));
+    }
+    let printed = plancell(&vector.input());
+    if printed != printed_cell(vector) {
+        let printed = printed.escape_ascii();
+        faults.push(format!("{place}: plancell prints {printed} for {right:?}"));
+    }
+    faults
+}
+
 fn check(faults: Vec<String>) {
     let first = faults
         .iter()
@@ -203,9 +272,50 @@ fn carried_vectors_of_an_index_have_every_kind_and_every_answer() {
     assert!(counts.iter().all(|count| *count >= 5), "{counts:?}");
 }
 
+#[test]
+fn every_carried_vector_of_a_cell_is_answered_as_written() {
+    check(carried_cells().iter().flat_map(cell_faults).collect());
+}
+
+#[test]
+fn carried_vectors_of_a_cell_have_every_kind_and_every_answer() {
+    let vectors = carried_cells();
+    assert_eq!(vectors.len(), 400);
+    let kinds: BTreeSet<&str> = vectors.iter().map(|vector| vector.kind.as_str()).collect();
+    assert_eq!(kinds, CELL_KINDS.into());
+    let count = |answer: &dyn Fn(&ShownCell) -> bool| {
+        let shown = vectors.iter().flat_map(|vector| &vector.shown);
+        shown.filter(|shown| answer(shown)).count()
+    };
+    let counts = [
+        vectors.len() - count(&|_| true),
+        count(&|shown| shown.source == Source::Plan),
+        count(&|shown| shown.source == Source::Catalogue && !shown.cut),
+        count(&|shown| shown.source == Source::None),
+        count(&|shown| shown.zero),
+    ];
+    assert!(counts.iter().all(|count| *count >= 5), "{counts:?}");
+}
+
+#[test]
+fn carried_cells_are_cut_at_each_edge_and_behind_a_blank() {
+    let vectors = carried_cells();
+    // All n - 3 bytes, and up to a blank that is the last of them or the first that counts.
+    let lengths = [[47, 46, 37], [77, 76, 67], [12, 11, 2], [4, 3, 1]];
+    for (field, lengths) in (1..).zip(lengths) {
+        let cells = vectors.iter().filter(|vector| vector.field == field);
+        let cut = cells.flat_map(|vector| &vector.shown).filter(|it| it.cut);
+        let cut: Vec<&[u8]> = cut.map(|shown| &shown.text[..]).collect();
+        let shown: BTreeSet<usize> = cut.iter().map(|text| text.len()).collect();
+        assert!(shown.is_superset(&lengths.into()), "{field}: {shown:?}");
+        assert!(cut.iter().any(|text| text.ends_with(b" ")), "{field}");
+    }
+}
+
 /// The environment variable TOLLGILT_VECTORS may name a file of many more vectors.
 #[test]
 fn every_vector_of_the_named_file_is_answered_as_written() {
     check(named().iter().flat_map(faults).collect());
     check(named_index().iter().flat_map(index_faults).collect());
+    check(named_cells().iter().flat_map(cell_faults).collect());
 }

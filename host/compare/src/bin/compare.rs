@@ -5,7 +5,7 @@
 //!   collector  sequences of a collector
 //!   index      indexes of rows and of sheets, built and asked
 //!   cells      cells of plans in numbers
-//!   printed    what planlist, planfresh and planfind print
+//!   printed    what planlist, planfresh, planfind and plancell print
 //!   packages   package numbers; here FIRST and COUNT are of the numbers themselves
 
 use std::collections::BTreeMap;
@@ -49,13 +49,6 @@ fn collector(seed: u64, tally: &mut Tally) -> Vec<String> {
     found
 }
 
-fn cells(seed: u64, tally: &mut Tally) -> Vec<String> {
-    let (refused, found) = cells::differences(seed);
-    *tally.entry("cells".to_string()).or_default() += cells::CELLS;
-    *tally.entry("refused".to_string()).or_default() += refused;
-    found
-}
-
 fn printed(seed: u64, _: &mut Tally) -> Vec<String> {
     printing::differences(seed)
 }
@@ -69,7 +62,7 @@ fn main() {
         Some("plans") => Some(plans),
         Some("collector") => Some(collector),
         Some("index") => Some(indexing::differences),
-        Some("cells") => Some(cells),
+        Some("cells") => Some(cells::differences),
         Some("printed") => Some(printed),
         Some("packages") => Some(packages::differences),
         Some(_) => None,

@@ -27,7 +27,7 @@ fn main() -> ExitCode {
     }
 }
 
-/// Prints the counts by kind, by answer and by answer of an index, the first failures, and the sums.
+/// Prints the counts by kind, by answer and by answer of an index or a cell, the first failures, and the sums.
 fn print(tally: &Tally) {
     for (kind, count) in &tally.kinds {
         println!("kind {kind}: {count}");
@@ -39,8 +39,8 @@ fn print(tally: &Tally) {
             _ => println!("refused with {number}: {count}"),
         }
     }
-    for (what, count) in &tally.index {
-        println!("index, {what}: {count}");
+    for (what, count) in &tally.asked {
+        println!("asked, {what}: {count}");
     }
     println!(
         "undamaged: {}, of them read: {}",

@@ -1,5 +1,5 @@
 //! The command of the second program: `planlist` lists, `fresh` writes fresh pages,
-//! `planfind` finds a package number.
+//! `planfind` finds a package number, `plancell` shows a cell.
 
 use std::io::{Read, Write};
 
@@ -25,9 +25,12 @@ fn main() -> std::io::Result<()> {
         Some("planlist") => second::planlist,
         Some("fresh") => fresh,
         Some("planfind") => second::planfind,
+        Some("plancell") => second::plancell,
         _ => {
             eprintln!("second planlist | second fresh, with pages on standard input");
             eprintln!("second planfind, with a package number, a zero byte and pages");
+            eprintln!("second plancell, with the numbers of a row and a field, which of three and");
+            eprintln!("a catalogue's text, a zero byte behind each, and pages");
             std::process::exit(2);
         }
     };
