@@ -1,9 +1,9 @@
-/* tollgilt.h: the sheets of a German medication plan (BMP 2.7) joined, listed, written afresh and asked for a package number, for C programs. This header
- * is the manual of the library's border.
+/* tollgilt.h: the sheets of a German medication plan (BMP 2.7) joined, listed, written afresh and asked for a package number or a printed cell, for C programs.
+ * This header is the manual of the library's border.
  *
  * A sheet's barcode holds one page: 1 to 1,400 bytes of XML in Latin-1. One to nine pages make a plan. The library joins them by what they say, in
- * whatever order they are handed in, and answers with a listing of the plan, with fresh pages or with the rows that hold a package number, or with a refusal
- * that names the page and the place.
+ * whatever order they are handed in, and answers with a listing of the plan, with fresh pages, with the rows that hold a package number or with the text of a
+ * printed cell, or with a refusal that names the page and the place.
  *
  * Only numbers and ranges of bytes and numbers cross this border. The library has no state, allocates nothing, writes nothing but what is lent to it for writing, and
  * calls nothing but the C library's memcpy, memmove, memset, memcmp and bcmp. It never fails in another way than by a refusal.
@@ -33,19 +33,21 @@ enum {
     TOLLGILT_PAGE_BYTES = 1400,    /* the most bytes of a page */
     TOLLGILT_LISTING_ROOM = 25200, /* the room that a listing asks for: it is enough for any plan */
     TOLLGILT_PAGE_ROOM = 12600,    /* the room that fresh pages ask for: it is enough for nine full ones */
-    TOLLGILT_ROWS = 256            /* the most rows of a plan, and the numbers that a list of rows asks for */
+    TOLLGILT_ROWS = 256,           /* the most rows of a plan, and the numbers that a list of rows asks for */
+    TOLLGILT_CELL_ROOM = 80        /* the room that a cell's text asks for: it is enough for any */
 };
 
 /* What a call answers: 0, or the number of a refusal. Beside each stands the page and the place that come with it. A page is counted from 1 in the
  * order in which the pages were handed in; a place is the offset of a byte from the beginning of its page, the first byte being 0.
  *
  * Where several refusals would fit, the lowest of these steps counts: 1; then each page in the order handed in, for 2 to 8 the lowest number of that
- * page, and of that number the lowest place; then 9, 10, 11, 12, 14. (13 is for plans that were not read from pages; it does not occur here.) */
+ * page, and of that number the lowest place; then 9, 10, 11, 12, 14, and last the 1 of a cell that is not there. (13 is for plans that were not read from
+ * pages; it does not occur here.) */
 enum {
     TOLLGILT_OK = 0,
 
     /* 1: the number of pages is not 1 to 9; or starts and lens differ in their counts; or a page does not lie within the buffer; or the room is too
-     * small. Page 0, place 0. */
+     * small. By tollgilt_cell alone also, once the pages are a plan: it has no such cell. Page 0, place 0. */
     TOLLGILT_NO_ROOM = 1,
 
     /* 2: the page is empty or has more than 1,400 bytes. Page; place 0. */
@@ -141,6 +143,51 @@ uint32_t tollgilt_fresh(const uint8_t *buffer, size_t size, const size_t *starts
  * for the pointers as for tollgilt_list, list being what out is there, aligned as uint32_t; and a call uses the stack as there. */
 uint32_t tollgilt_find(const uint8_t *buffer, size_t size, const size_t *starts, size_t starts_count, const size_t *lens, size_t lens_count,
                        uint32_t number, uint32_t *list, size_t room, uint32_t told[3]);
+
+/* The cells of a medication row. */
+enum {
+    TOLLGILT_NAME = 1,      /* the trade name, at most 50 bytes */
+    TOLLGILT_SUBSTANCE = 2, /* one of up to three substances, at most 80 bytes */
+    TOLLGILT_STRENGTH = 3,  /* the strength of one of them, at most 15 bytes */
+    TOLLGILT_FORM = 4,      /* the form, at most 7 bytes; a code is no text, so that the catalogue's form takes its place */
+    TOLLGILT_MORNING = 5,   /* the doses at four times of day */
+    TOLLGILT_MIDDAY = 6,
+    TOLLGILT_EVENING = 7,
+    TOLLGILT_NIGHT = 8,
+    TOLLGILT_FREE_DOSE = 9  /* the dose as free text */
+};
+
+/* Where the text of a cell comes from. */
+enum {
+    TOLLGILT_FROM_NEITHER = 0, /* there is none: the cell is empty */
+    TOLLGILT_FROM_PLAN = 1,
+    TOLLGILT_FROM_CATALOGUE = 2
+};
+
+/* Gives the text of a printed cell, and how much of it was left out: the plan's own text if there is one, else the catalogue's, else none.
+ *
+ *   buffer, size, starts, starts_count, lens, lens_count   as for tollgilt_list.
+ *   catalogue, catalogue_size   the text that a catalogue has for this cell, all of it, in Latin-1, where a character is a byte; any bytes and any length, and
+ *                size 0 where it has none.
+ *   row          the row, counted from 1 as in the listing.
+ *   field        TOLLGILT_NAME to TOLLGILT_FREE_DOSE.
+ *   which        for a substance or a strength which of the three, 1 to 3; any number for the others.
+ *   out, room    the room for the text: at least TOLLGILT_CELL_ROOM bytes, whatever the text needs; less is refused with 1.
+ *   told         seven numbers: the length of the text, the page and the place of a refusal, where the text comes from, 1 if "..." follows it, 1 if 0 is
+ *                printed in its place, and how many characters were left out. All seven are written by every call.
+ *
+ * A text longer than the n bytes of its cell is cut before the last blank among its first n - 3 bytes, if that blank is one of the last ten of them and not the
+ * very first byte; otherwise after n - 3 bytes. Then "..." follows, and the number of characters left out, which is 0 for every text that is not cut, goes
+ * into the margin: "+12". Nothing is left out of a dose, and the catalogue is not asked for it. An absent time of day is empty; if another time of the row is
+ * there, 0 is printed in its place.
+ *
+ * Answers 0 and lays the text at the beginning of out: told is then { its length, 0, 0, TOLLGILT_FROM_.., 0 or 1, 0 or 1, how many }, and the room behind the
+ * text is untouched. Or answers the number of a refusal: told is then { 0, page, place, 0, 0, 0, 0 }, and all of out is untouched. It is 1 where the pages are
+ * a plan without this cell: no row has the number, or the row is no medication, or field or which is none of the above. The caller answers for the pointers as
+ * for tollgilt_list, the catalogue being one of those that are only read, and told aligned as size_t; and a call uses the stack as there. */
+uint32_t tollgilt_cell(const uint8_t *buffer, size_t size, const size_t *starts, size_t starts_count, const size_t *lens, size_t lens_count,
+                       const uint8_t *catalogue, size_t catalogue_size, size_t row, uint32_t field, size_t which,
+                       uint8_t *out, size_t room, size_t told[7]);
 
 #ifdef __cplusplus
 }

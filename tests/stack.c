@@ -31,10 +31,19 @@ static uint32_t find(const uint8_t *bytes, size_t size, const size_t *first, siz
     return tollgilt_find(bytes, size, first, first_count, lengths, lengths_count, 2394428, list, TOLLGILT_ROWS, numbers);
 }
 
-enum { LIST, FRESH, FIND, FUNCTIONS };
+/* Shows the name in the second row, the first being a heading, with a catalogue's text that is cut, and tells numbers of its own. */
+static uint32_t cell(const uint8_t *bytes, size_t size, const size_t *first, size_t first_count, const size_t *lengths, size_t lengths_count, uint8_t *room, size_t room_size,
+                     uint32_t *numbers) {
+    static const uint8_t catalogue[] = "METOPROLOLSUCCINAT MUSTER 95 mg/12,5 mg Retardtabl.";
+    static size_t wide[7];
+    (void)numbers;
+    return tollgilt_cell(bytes, size, first, first_count, lengths, lengths_count, catalogue, sizeof catalogue - 1, 2, TOLLGILT_NAME, 0, room, room_size, wide);
+}
+
+enum { LIST, FRESH, FIND, CELL, FUNCTIONS };
 
 static struct function functions[FUNCTIONS] = {
-    [LIST] = {"tollgilt_list", tollgilt_list, 0}, [FRESH] = {"tollgilt_fresh", tollgilt_fresh, 0}, [FIND] = {"tollgilt_find", find, 0}};
+    [LIST] = {"tollgilt_list", tollgilt_list, 0}, [FRESH] = {"tollgilt_fresh", tollgilt_fresh, 0}, [FIND] = {"tollgilt_find", find, 0}, [CELL] = {"tollgilt_cell", cell, 0}};
 
 static void *call(void *function) {
     uint8_t here;
@@ -81,10 +90,11 @@ static void page(size_t a, size_t z, const char *row) {
 
 static int passed, failed;
 
-/* Each function's call on nine full pages of rows of this kind gets its number, that of fresh pages or of the others, and stays within what the header
- * promises. */
+/* Each function's call on nine full pages of rows of this kind gets its number, that of fresh pages or of the others, where a row that is no medication has no
+ * cell, and stays within what the header promises. */
 static void stay(const char *name, const char *row, size_t z, uint32_t listed, uint32_t fresh) {
-    const uint32_t answers[FUNCTIONS] = {[LIST] = listed, [FRESH] = fresh, [FIND] = listed};
+    const uint32_t no_cell = listed == 0 && strncmp(row, "<M", 2) != 0;
+    const uint32_t answers[FUNCTIONS] = {[LIST] = listed, [FRESH] = fresh, [FIND] = listed, [CELL] = no_cell ? TOLLGILT_NO_ROOM : listed};
     for (size_t a = 1; a <= 9; a++)
         page(a, z, row);
     for (size_t i = 0; i < FUNCTIONS; i++) {

@@ -1,8 +1,10 @@
-//! Joins the sheets of a German medication plan (BMP 2.7), lists the plan, writes it afresh and finds a package number on it, by the proved library.
+//! Joins the sheets of a German medication plan (BMP 2.7), lists the plan, writes it afresh, finds a package number on it and gives the text of its printed cells,
+//! by the proved library.
 //!
 //! A sheet's barcode holds one page: 1 to 1,400 bytes of XML in Latin-1. One to nine pages make a plan. [`list`] joins them by what they say, in
 //! whatever order they are handed in, and gives the plan as key=value lines, or a [`Refusal`] that names the page and the place. [`fresh`] gives the plan as
-//! fresh pages instead: one spelling for each plan, on as few pages as can hold it. [`find`] gives the rows of the plan that hold a package number.
+//! fresh pages instead: one spelling for each plan, on as few pages as can hold it. [`find`] gives the rows of the plan that hold a package number. [`cell`] gives
+//! the text of a printed cell, the plan's own or a catalogue's, and how much of it was left out.
 //!
 //! ```
 //! let page = br#"<MP v="027" U="00112233445566778899AABBCCDDEEFF"><P g="Ida" f="Kern" b="19510704"/><A n="Praxis Holm"
@@ -25,8 +27,10 @@
 //! assert_eq!(refusal.to_string(), "page number 2 is missing");
 //! ```
 
+mod cells;
 mod refusal;
 
+pub use cells::{cell, cell_into, Cell, Field, Source};
 pub use refusal::Refusal;
 
 /// The most pages that a call hands in.
@@ -43,6 +47,9 @@ pub const PAGE_ROOM: usize = 12_600;
 
 /// The most rows of a plan, and the numbers that a list of rows asks for.
 pub const ROWS: usize = 256;
+
+/// The room that a cell's text asks for: it is enough for any.
+pub const CELL_ROOM: usize = 80;
 
 mod border {
     /// A function of the library: buffer, starts, lengths and room, each as a pointer and a size, and the numbers that it tells, of which the second and
@@ -96,6 +103,23 @@ mod border {
             list: *mut u32,
             room: usize,
             told: *mut [u32; 3],
+        ) -> u32;
+        #[allow(clippy::too_many_arguments)]
+        pub fn tollgilt_cell(
+            buffer: *const u8,
+            size: usize,
+            starts: *const usize,
+            starts_count: usize,
+            lens: *const usize,
+            lens_count: usize,
+            catalogue: *const u8,
+            catalogue_size: usize,
+            row: usize,
+            field: u32,
+            which: usize,
+            out: *mut u8,
+            room: usize,
+            told: *mut [usize; 7],
         ) -> u32;
     }
 }

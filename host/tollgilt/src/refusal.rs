@@ -1,13 +1,13 @@
-//! Why a set of pages is no plan.
+//! Why a set of pages is no plan, or has no such cell.
 
 use std::fmt;
 
-/// Why a set of pages is no plan, with the page and the place where there is one.
+/// Why a set of pages is no plan, with the page and the place where there is one; or, of a plan, what it does not give.
 ///
 /// `page` counts from 1 in the order in which the pages were handed in. `place` is the offset of a byte in its page, the first byte being 0.
 ///
 /// Where several fit, the answer is the first of: 1; then for each page in its order the lowest of 2 to 8, and of that the lowest place; then 9, 10,
-/// 11, 12, 14.
+/// 11, 12, 14, and last [`NoCell`](Self::NoCell).
 ///
 /// ```
 /// use tollgilt::Refusal;
@@ -19,9 +19,12 @@ use std::fmt;
 /// ```
 #[derive(Clone, Copy, Debug, PartialEq, Eq, Hash)]
 pub enum Refusal {
-    /// 1: the call hands in no page or more than nine; for [`list_into`](crate::list_into), [`fresh_into`](crate::fresh_into) and
-    /// [`find_into`](crate::find_into) also a page outside the buffer, starts and lengths that are not equally many, or too little room.
+    /// 1: the call hands in no page or more than nine; for [`list_into`](crate::list_into), [`fresh_into`](crate::fresh_into),
+    /// [`find_into`](crate::find_into) and [`cell_into`](crate::cell_into) also a page outside the buffer, starts and lengths that are not equally many, or too
+    /// little room.
     NoRoom,
+    /// 1 too, for a cell alone: the pages are a plan, but it has no such row, or the row is no medication, or a substance or strength is none of the three.
+    NoCell,
     /// 2: the page is empty or has more than 1,400 bytes.
     PageSize { page: u32 },
     /// 3: a byte that is not allowed.
@@ -74,7 +77,7 @@ impl Refusal {
     /// The number of the refusal, 1 to 12 or 14.
     pub fn number(&self) -> u32 {
         match self {
-            Self::NoRoom => 1,
+            Self::NoRoom | Self::NoCell => 1,
             Self::PageSize { .. } => 2,
             Self::ByteRefused { .. } => 3,
             Self::Malformed { .. } => 4,
@@ -93,7 +96,7 @@ impl Refusal {
     /// The page that comes with it, counted from 1 in the order handed in; for a missing page its page number; 0 for a refusal of the whole set.
     pub fn page(&self) -> u32 {
         match *self {
-            Self::NoRoom | Self::TooManyRows | Self::NoCut { .. } => 0,
+            Self::NoRoom | Self::NoCell | Self::TooManyRows | Self::NoCut { .. } => 0,
             Self::PageSize { page }
             | Self::ByteRefused { page, .. }
             | Self::Malformed { page, .. }
@@ -126,6 +129,7 @@ impl fmt::Display for Refusal {
     fn fmt(&self, words: &mut fmt::Formatter<'_>) -> fmt::Result {
         match self {
             Self::NoRoom => write!(words, "the call does not hand in one to nine pages that lie in its buffer, and room enough"),
+            Self::NoCell => write!(words, "the plan has no such cell: no row of that number, or a row that is no medication, or none of the three"),
             Self::PageSize { page } => write!(words, "page {page} is empty or longer than 1,400 bytes"),
             Self::ByteRefused { page, place } => write!(words, "page {page} has a byte that is not allowed, at byte {place}"),
             Self::Malformed { page, place } => write!(words, "page {page} is malformed from byte {place} on"),

@@ -5,10 +5,13 @@ mod seeds;
 use std::fmt::Debug;
 
 use inputs::{case, Random};
-use second::call::{find_call, fresh_call, listing_call};
-use second::Refusal;
+use second::call::{cell_call, find_call, fresh_call, listing_call};
+use second::{cell, Refusal};
 use seeds::seeds;
-use tollgilt::{find_into, fresh_into, list_into, LISTING_ROOM, PAGES, PAGE_ROOM, ROWS};
+use tollgilt::{
+    cell_into, find_into, fresh_into, list_into, Cell, Field, Source, CELL_ROOM, LISTING_ROOM,
+    PAGES, PAGE_ROOM, ROWS,
+};
 
 /// What stands in the room or in the list before a call, and must stand there afterwards wherever nothing was laid.
 const POISONS: [u8; 2] = [0x00, 0xA5];
@@ -17,7 +20,23 @@ const LIST_POISONS: [u32; 2] = [0, 0xA5A5_A5A5];
 /// Numbers that are asked for: one that many generated plans hold, and one that none does.
 const NUMBERS: [u32; 2] = [2_394_428, 0];
 
-/// Compares a call with the second program, for a listing, for fresh pages and for the rows that hold a number: the numbers that are told, or the refusal, and
+/// Cells that are asked for, as the library and as the second program name them, with the catalogue's text: some that many generated plans have, and some that
+/// none has.
+const CELLS: [(usize, Field, [usize; 2], &[u8]); 6] = [
+    (1, Field::Name, [cell::NAME, 0], &[b'a'; 51]),
+    (
+        2,
+        Field::Name,
+        [cell::NAME, 0],
+        b"METOPROLOLSUCCINAT MUSTER 95 mg/12,5 mg Retardtabl.",
+    ),
+    (2, Field::Substance(1), [cell::SUBSTANCE, 1], b""),
+    (3, Field::Night, [cell::NIGHT, 0], b"K"),
+    (2, Field::Strength(4), [cell::STRENGTH, 4], b"K"),
+    (0, Field::Form, [cell::FORM, 0], b"K"),
+];
+
+/// Compares a call with the second program, for a listing, for fresh pages, for the rows that hold a number and for cells: what is told, or the refusal, and
 /// every byte of the room or number of the list. `room` says how much is lent of what the call asks for.
 fn compare(
     name: &str,
@@ -49,6 +68,32 @@ fn compare(
             &rows,
             |list| find_into(buffer, starts, lens, number, list),
         );
+    }
+    let lent = room(CELL_ROOM);
+    for (row, field, [number, which], catalogue) in CELLS {
+        let asked = [row, number, which];
+        let shown = cell_call(buffer, starts, lens, catalogue, asked, lent);
+        let shown = shown.map(|shown| (told(shown.clone()), shown.text));
+        let name = format!("{name}, {field:?} of row {row}");
+        same(&name, lent, POISONS, &shown, |out| {
+            let shown = cell_into(buffer, starts, lens, row, field, catalogue, out);
+            shown.map(|shown| shown.to_vec())
+        });
+    }
+}
+
+/// A cell of the second program as one of the library.
+fn told(cell: cell::Cell<Vec<u8>>) -> Cell {
+    Cell {
+        text: cell.text,
+        source: match cell.source {
+            cell::Source::Neither => Source::Neither,
+            cell::Source::Plan => Source::Plan,
+            cell::Source::Catalogue => Source::Catalogue,
+        },
+        dots: cell.dots,
+        zero: cell.zero,
+        left_out: cell.left_out,
     }
 }
 
@@ -114,7 +159,7 @@ fn edge(size: usize, random: &mut Random) -> usize {
 }
 
 #[test]
-fn pages_that_lie_anywhere_in_the_buffer_are_listed_written_searched_or_refused_alike() {
+fn pages_that_lie_anywhere_in_the_buffer_are_listed_written_searched_shown_or_refused_alike() {
     for seed in seeds(2_000) {
         let mut random = Random::new(seed ^ 0xB0DE);
         let (buffer, starts, lens) = scattered(&case(seed).pages, &mut random);
@@ -152,7 +197,7 @@ fn numbers_that_do_not_fit_are_refused_like_in_the_second_program() {
 #[test]
 fn a_room_one_byte_or_number_too_small_is_refused_with_1_and_untouched() {
     let page = case(0).pages.concat();
-    for less in [1, 100, ROWS - 1, ROWS, PAGE_ROOM - 1, PAGE_ROOM] {
+    for less in [1, CELL_ROOM, 100, ROWS - 1, ROWS, PAGE_ROOM - 1, PAGE_ROOM] {
         compare("a small room", &page, &[0], &[page.len()], |asked| {
             asked.saturating_sub(less)
         });
@@ -239,7 +284,8 @@ fn a_thread_with_256_kilobytes_of_stack_can_make_every_call() {
             let listed = list_into(&buffer, &starts, &lens, &mut out).is_ok();
             let written = fresh_into(&buffer, &starts, &lens, &mut out).is_ok();
             let found = find_into(&buffer, &starts, &lens, 2_394_428, &mut [0; ROWS]).is_ok();
-            assert!(listed || !written, "seed {seed}");
+            let shown = cell_into(&buffer, &starts, &lens, 1, Field::Name, b"K", &mut out).is_ok();
+            assert!(listed || !written && !shown, "seed {seed}");
             assert_eq!(listed, found, "seed {seed}");
         }
     };
