@@ -39,8 +39,8 @@ TAKES = {
                  " (allowed: YYYYMMDD after 18750101; day unknown: YYYYMM00; day and month unknown: YYYY0000; year from 1875 on)"),
 }
 
-USAGE = ("tollgilt [--table | --html DATEI | --fresh ORDNER | --find PZN] BLATT...",
-         "tollgilt [--table | --html FILE | --fresh DIR | --find NUMBER] SHEET...")
+USAGE = ("tollgilt [--table | --html DATEI | --fresh ORDNER | --find PZN] [--catalogue DATEI] BLATT...",
+         "tollgilt [--table | --html FILE | --fresh DIR | --find NUMBER] [--catalogue FILE] SHEET...")
 
 HELP = """\
 {usage[0]}
@@ -56,6 +56,9 @@ liefert: für jedes Blatt eine eigene Datei. Ihre Reihenfolge spielt keine Rolle
   --find PZN      nur die Zeilen des Plans mit dieser PZN, als Tabelle. PZN wie
                   auf der Packung: ein bis acht Ziffern, mit oder ohne Nullen am
                   Anfang, auch "PZN-02394428", "PZN 02394428" und "-02394428"
+  --catalogue DATEI
+                  zu --table, --html oder --find: Namen, Formen, Wirkstoffe und
+                  Stärken, die der Plan nicht nennt, aus diesem Katalog
   (ohne Option)   der Plan als Zeilen Feld=Wert, in Latin-1 wie die Blätter;
                   auf einem Terminal mit UTF-8 in UTF-8
   --help          dieser Text
@@ -72,6 +75,13 @@ gezählt von 1 an).
 --find sagt zuerst, in wie vielen Zeilen die PZN steht; über jeder steht ihre
 Nummer, gezählt von 1 an. Steht die PZN nicht auf dem Plan, so sagt das eine
 Meldung; die Prüfziffer wird dabei nicht beurteilt.
+
+Der Katalog von --catalogue ist eine Textdatei in UTF-8 oder Latin-1 mit einer
+Zeile je Packung. Ihre Spalten trennt ein Tabulator: PZN, Handelsname, Form und
+bis zu drei Paare aus Wirkstoff und Stärke; sie dürfen leer sein und am Ende
+fehlen. Was der Plan selbst nennt, bleibt stehen. Nennt er einen anderen
+Wirkstoff als der Katalog, so gelten nur seine Wirkstoffe und Stärken. Was für
+sein Feld zu lang ist, wird gekürzt: "... +12" heißt, dass 12 Zeichen fehlen.
 
 Exit-Status: 0 ein Plan, 1 kein Plan, 2 falsch aufgerufen, 3 etwas lässt sich
 nicht lesen, schreiben oder ausführen, 4 die PZN steht nicht auf dem Plan.
@@ -92,6 +102,9 @@ its own for each sheet. Their order does not matter.
                   table. NUMBER as on the box: one to eight digits, with or
                   without zeros at the beginning, also "PZN-02394428",
                   "PZN 02394428" and "-02394428"
+  --catalogue FILE
+                  with --table, --html or --find: names, forms, substances and
+                  strengths that the plan does not name, from this catalogue
   (no option)     the plan as key=value lines, in Latin-1 like the sheets;
                   on a terminal with UTF-8 in UTF-8
   --help          this text
@@ -107,6 +120,13 @@ the place in it counted from 0 (at 14 the plan's row counted from 1).
 --find says first how many rows have the number; above each stands which row it
 is, counted from 1. Where the number is not on the plan, a message says so; its
 check digit is not judged.
+
+The catalogue of --catalogue is a text file in UTF-8 or Latin-1 with one line to
+a package. A tab parts its columns: package number, trade name, form and up to
+three pairs of substance and strength; they may be empty, and missing at the
+end. What the plan itself names stays. Where it names another substance than the
+catalogue, its own substances and strengths alone count. What is too long for
+its field is cut: "... +12" says that 12 characters are missing.
 
 Exit status: 0 a plan, 1 no plan, 2 bad use, 3 something cannot be read, written
 or run, 4 the number is not on the plan.
@@ -139,6 +159,17 @@ WORDS = {
     "no number": ("Hinter --find steht keine PZN (ein bis acht Ziffern, auch mit „PZN-“, „PZN “ oder „-“ davor): {text}",
                   'no package number behind --find (one to eight digits, also with "PZN-", "PZN " or "-" before them): {text}'),
     "one form": ("Von --table, --html, --fresh und --find geht immer nur eines.", "of --table, --html, --fresh and --find only one can be had."),
+    "catalogue alone": ("--catalogue geht nur zusammen mit --table, --html oder --find.", "--catalogue goes only with --table, --html or --find."),
+    "folder for a catalogue": ("Das ist ein Ordner, kein Katalog: {name}", "a folder, not a catalogue: {name}"),
+    "UTF-16 catalogue": ("Der Katalog ist in Unicode (UTF-16) gespeichert: {name}\nAls Text in UTF-8 speichern, mit Tabulatoren zwischen den Spalten.",
+                         "the catalogue is saved as Unicode (UTF-16): {name}\nSave it as text in UTF-8, with tabs between the columns."),
+    "catalogue line": ("Katalog {name}, Zeile {line}: {problem}", "catalogue {name}, line {line}: {problem}"),
+    "long line": ("Sie ist viel zu lang.", "it is much too long."),
+    "strange": ("Das Zeichen {text} kann in keinem Namen eines Medikationsplans stehen.", "no name on a medication plan can have the character {text}."),
+    "no package": ("Am Anfang steht keine PZN: {text}", "there is no package number at its beginning: {text}"),
+    "many columns": ("Sie hat mehr als neun Spalten.", "it has more than nine columns."),
+    "long text": ("Ein Text hat mehr als 1.000 Zeichen: {text}", "a text has more than 1,000 characters: {text}"),
+    "package twice": ("Die PZN {number} steht schon in Zeile {line}.", "the package number {number} is already in line {line}."),
     "no file": ("Diese Datei gibt es nicht: {name}", "no such file: {name}"),
     "folder": ("Das ist ein Ordner, kein Blatt: {name}", "a folder, not a sheet: {name}"),
     "zero": ("Das ist kein einzelnes Blatt (die Datei enthält ein Null-Byte): {name}\nJedes Blatt in eine eigene Datei scannen.",
