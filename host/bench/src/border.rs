@@ -45,6 +45,19 @@ extern "C" {
         number: u32,
         told: *mut [u32; 2],
     ) -> u32;
+    fn probe_cell(
+        rows: *const u32,
+        rows_length: usize,
+        count: usize,
+        text: *const u8,
+        text_length: usize,
+        catalogue: *const u8,
+        catalogue_length: usize,
+        row: usize,
+        field: u32,
+        which: usize,
+        told: *mut [usize; 6],
+    ) -> u32;
     fn tollgilt_find(
         buffer: *const u8,
         size: usize,
@@ -56,6 +69,22 @@ extern "C" {
         list: *mut u32,
         room: usize,
         told: *mut [u32; 3],
+    ) -> u32;
+    fn tollgilt_cell(
+        buffer: *const u8,
+        size: usize,
+        starts: *const usize,
+        starts_count: usize,
+        lens: *const usize,
+        lens_count: usize,
+        catalogue: *const u8,
+        catalogue_size: usize,
+        row: usize,
+        field: u32,
+        which: usize,
+        out: *mut u8,
+        room: usize,
+        told: *mut [usize; 7],
     ) -> u32;
     fn tollgilt_list(
         buffer: *const u8,
@@ -128,6 +157,15 @@ impl Call {
             lens,
         }
     }
+}
+
+/// A cell that is asked for, and the catalogue's text for it.
+#[derive(Clone, Copy)]
+pub struct Asked<'a> {
+    pub row: usize,
+    pub field: u32,
+    pub which: usize,
+    pub catalogue: &'a [u8],
 }
 
 /// The rooms that a caller lends, the plan in numbers that was read last: its patch, its number of rows and the spans of its head, and the number of pairs of the
@@ -311,5 +349,58 @@ impl Rooms {
             )
         };
         told[0] as usize
+    }
+
+    /// Shows the cell in each row of the plan that was read: how much was left out of all, a refusal counting 0.
+    pub fn show(&self, asked: Asked) -> usize {
+        let rows = 1..=self.plan[1] as usize;
+        rows.map(|row| self.show_in(Asked { row, ..asked })).sum()
+    }
+
+    /// Shows a cell of the plan that was read: how much was left out, 0 for a refusal.
+    fn show_in(&self, asked: Asked) -> usize {
+        let mut told = [0; 6];
+        // SAFETY: each pair of arguments is one slice, which is only read; `told` has the six numbers that are written.
+        unsafe {
+            probe_cell(
+                self.rows.as_ptr(),
+                self.rows.len(),
+                self.plan[1] as usize,
+                self.text.as_ptr(),
+                self.text.len(),
+                asked.catalogue.as_ptr(),
+                asked.catalogue.len(),
+                asked.row,
+                asked.field,
+                asked.which,
+                &mut told,
+            )
+        };
+        told[5]
+    }
+
+    /// Shows a cell of the pages' plan: how much was left out, 0 for a refusal.
+    pub fn cell(&mut self, call: &Call, asked: Asked) -> usize {
+        let mut told = [0; 7];
+        // SAFETY: each pair of arguments is one slice; the text is written within the length of the lines, `told` has the seven numbers that are written.
+        unsafe {
+            tollgilt_cell(
+                call.buffer.as_ptr(),
+                call.buffer.len(),
+                call.starts.as_ptr(),
+                call.starts.len(),
+                call.lens.as_ptr(),
+                call.lens.len(),
+                asked.catalogue.as_ptr(),
+                asked.catalogue.len(),
+                asked.row,
+                asked.field,
+                asked.which,
+                self.lines.as_mut_ptr(),
+                self.lines.len(),
+                &mut told,
+            )
+        };
+        told[6]
     }
 }

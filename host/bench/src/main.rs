@@ -6,12 +6,17 @@ mod border;
 use std::hint::black_box;
 use std::time::{Duration, Instant};
 
-use border::{Call, Peer};
+use border::{Asked, Call, Peer};
 use inputs::{case, Random};
+use second::cell::{cell_of, Source, SUBSTANCE};
 use second::class::CLASSES;
 
 /// How often each work is done; the quickest time counts. All works take turns, so that other work on the machine hits them alike.
 const ROUNDS: usize = 1_001;
+
+/// A catalogue's text for a third substance, cut as far back as a text may be: before the first of the ten bytes that are looked at.
+const CATALOGUE: &[u8] =
+    b"Metoprololsuccinat, Hydrochlorothiazid und Amlodipinbesilat jeweils Filmtablettenanteil";
 
 /// What is measured: its short name, its words, and what it does with the pages.
 struct Work<'a> {
@@ -50,6 +55,16 @@ fn fresh_length(pages: &[&[u8]]) -> usize {
     written.map_or(0, |pages| pages.iter().map(Vec::len).sum())
 }
 
+/// The rows that show the catalogue's text for a third substance, and how much of it each leaves out, by the second program.
+fn lent(pages: &[&[u8]]) -> Vec<(usize, usize)> {
+    let shown = |row| {
+        let cell = cell_of(pages, CATALOGUE, row, SUBSTANCE, 3).ok();
+        let lent = cell.filter(|cell| cell.source == Source::Catalogue);
+        lent.map(|cell| (row, cell.left_out))
+    };
+    (1..=256).filter_map(shown).collect()
+}
+
 /// Every work on these pages. Each is seen to answer rightly before it is measured.
 fn works<'a>(pages: &'a [Vec<u8>], call: &'a Call) -> Vec<Work<'a>> {
     let views: Vec<&[u8]> = pages.iter().map(Vec::as_slice).collect();
@@ -67,6 +82,14 @@ fn works<'a>(pages: &'a [Vec<u8>], call: &'a Call) -> Vec<Work<'a>> {
     writing.read(call);
     let (mut building, mut asking, mut finding) = (rooms(), rooms(), rooms());
     let (mut most, mut asking_most) = (rooms(), rooms());
+    let (mut showing, mut printing) = (rooms(), rooms());
+    showing.read(call);
+    let asked = Asked {
+        row: lent(&views)[0].0,
+        field: SUBSTANCE as u32,
+        which: 3,
+        catalogue: CATALOGUE,
+    };
     building.read(call);
     asking.read(call);
     asking.build();
@@ -143,6 +166,16 @@ fn works<'a>(pages: &'a [Vec<u8>], call: &'a Call) -> Vec<Work<'a>> {
         Box::new(move || finding.find(call, number)),
     );
     add(
+        "show",
+        "**a cell in each row** of the plan as read, cut at a word where it is the catalogue's",
+        Box::new(move || showing.show(asked)),
+    );
+    add(
+        "cell",
+        "**a printed cell** of the pages: reading, and the cell",
+        Box::new(move || printing.cell(call, asked)),
+    );
+    add(
         "second-read",
         "the second program's reading, in Rust, unproved",
         Box::new(move || second::read(&views).map_or(0, |plan| plan.rows.len())),
@@ -175,7 +208,7 @@ fn works<'a>(pages: &'a [Vec<u8>], call: &'a Call) -> Vec<Work<'a>> {
     all
 }
 
-/// Whether reading, listing and writing, the second program's and every peer's answer are what they must be, so that no refusal is measured.
+/// Whether every proved work's answer, the second program's and every peer's are what they must be, so that no refusal is measured.
 fn right(works: &mut [Work], pages: &[Vec<u8>]) -> bool {
     let views: Vec<&[u8]> = pages.iter().map(Vec::as_slice).collect();
     let plan = second::read(&views).expect("the pages are a plan");
@@ -184,6 +217,7 @@ fn right(works: &mut [Work], pages: &[Vec<u8>]) -> bool {
     let first = index.iter().min_by_key(|pair| pair.row);
     let number = first.expect("some row has a package number").number;
     let held = index.iter().filter(|pair| pair.number == number).count();
+    let left_out: Vec<usize> = lent(&views).into_iter().map(|(_, left)| left).collect();
     let fresh = fresh_length(&views);
     assert!(fresh > 0, "the plan fits on nine fresh pages");
     works.iter_mut().all(|work| {
@@ -197,6 +231,8 @@ fn right(works: &mut [Work], pages: &[Vec<u8>]) -> bool {
             "index-256" => answer == 256,
             "ask" | "find" => answer == held,
             "ask-256" => answer == 1,
+            "show" => answer == left_out.iter().sum::<usize>(),
+            "cell" => answer == left_out[0],
             "pugixml" | "expat" | "libxml2" => answer == pages.len(),
             "scan" => answer == 2_000 * pages.len(),
             "bytes" => answer == pages.iter().map(Vec::len).sum::<usize>(),
