@@ -107,6 +107,24 @@ fn room_smaller_than_document_01_says_is_refused_with_1_whatever_is_needed() {
 }
 
 #[test]
+fn a_cell_of_pages_asks_for_room_of_80_bytes_whatever_its_text_needs() {
+    let page = bytes(&numbered(1, 1, "<S><M p='2394428' m='1'/></S>"));
+    let name = |length, room| {
+        let catalogue = b"Haferstroh und Gerste";
+        cell_call(&page, &[0], &[length], catalogue, [1, 1, 3], room)
+    };
+    for room in [80, 81, 1_000] {
+        let shown = name(page.len(), room).unwrap();
+        assert_eq!(shown.text, b"Haferstroh und Gerste", "{room}");
+    }
+    for room in [79, 21, 0] {
+        assert_eq!(triple(name(page.len(), room)), ONE, "{room}");
+    }
+    assert_eq!(triple(name(0, 79)), ONE);
+    assert_eq!(triple(name(0, 80)), (2, 1, 0));
+}
+
+#[test]
 fn the_writer_is_refused_with_1_for_more_rows_than_lent_or_than_256() {
     let (buffer, starts, lengths) = buffer();
     let (numbers, text) = read_call(&buffer, &starts, &lengths, 256, 12_600).unwrap();
