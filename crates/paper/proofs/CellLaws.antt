@@ -389,7 +389,7 @@ pub begins-near : (n : ℕ) (v : List ℕ) (i : ℕ) → Begun n v i → (i ≤ 
 begins-near n v i (at-a-word p S f) = let h = S .among in (omega arith, S .of-ten)
 begins-near n v i (in-a-word f) = (omega arith, omega arith)
 
--- a cut text does not end with the blank that it is cut before, and is not empty
+-- of a text that is cut something is shown
 pub begins-some : (n : ℕ) (v : List ℕ) (i : ℕ) → 3 < n → Begun n v i → 1 ≤ i
 begins-some n v i h (at-a-word p S f) = S .not-first
 begins-some n v i h (in-a-word f) = omega arith
