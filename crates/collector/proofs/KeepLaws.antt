@@ -5,14 +5,14 @@ use mathlib.Core.Bool.{Bool, true, false, not, _&&_}
 use mathlib.Core.List.{List, [], _∷_}
 use Prim.Native.Nat.{ℕ, _+_, _-_, _*_, _≤_}
 use native.Mathlib.Omega.{arith}
-use lib.Dec.{leb}
+use lib.Dec.{eqb, leb}
 use lib.ListN.{length, take, drop, set}
 use lib.Seq.{slice, take-add, drop-at, length-take-le}
-use borrow.Author.Tests.{leb-true, le-leb, eq-eqb, ne-eqb}
+use borrow.Author.Tests.{leb-true, le-leb, ne-eqb}
 use Rattle.paper.specs.Lists.{if, same}
 use Rattle.paper.specs.Plan.{sameHead}
 use Rattle.paper.specs.Judging.{Sheet, Judged, refused, sheet, judge}
-use Rattle.paper.specs.Reading.{numbers, sheets, judgeAll}
+use Rattle.paper.specs.Reading.{numbers}
 use Rattle.paper.specs.Collecting.{Added, added, alreadyHere, refusedWith}
 use Rattle.paper.proofs.Small.{both, unequal, same-comm}
 use Rattle.paper.proofs.PageNumbers.{numbered}
@@ -20,12 +20,15 @@ use Rattle.markup.specs.Laid.{laid}
 use Rattle.markup.specs.Walk.{tagsAt}
 use Rattle.sheet.specs.Content.{contentOf, headFrom}
 use Rattle.sheet.specs.Judged.{verdictOf}
-use Rattle.sheet.specs.declared.judge.Verdict.the-variants.{Refused, Fine}
+use Rattle.sheet.specs.declared.judge.Verdict.the-variants.{Refused}
+use Rattle.tape.specs.Making.{IsSheet}
+use Rattle.tape.proofs.TapeLaws.{sheet-by}
 use Rattle.reader.specs.Joining.{PageFits}
 use Rattle.reader.specs.Answers as Reader
 use Rattle.reader.specs.declared.answer.Answer as Read
 use Rattle.reader.specs.declared.answer.Answer.the-variants.{NoRoom, OtherHead, NumberTwice}
-use Rattle.reader.proofs.ReadingLaws.{all-said, page-refused}
+use Rattle.reader.proofs.ReadingLaws.{page-refused}
+use Rattle.reader.proofs.TakenLaws.{page-good}
 use Rattle.collector.specs.Keeping.{startOf, lenOf, here, pageAt, kept, agreesWith, agreesFirst, firstWith, Answered, unchanged, keptWith, takenIn, addedAs, addedTo, addedCall}
 use Rattle.collector.specs.Answers.{pageOf, Tells}
 use Rattle.collector.specs.Promise.{Promised}
@@ -113,16 +116,10 @@ pub record Says (w : List ℕ) : Type 0 where
   pub fits : PageFits w
   pub least : 1 ≤ contentOf (tagsAt w 0) .no
 
-pub says : (w : List ℕ) → Fine ≡ verdictOf (judge w) → Says w
-says w e = at (judge w) refl e
-  where
-    at : (j : Judged) → judge w ≡ j → Fine ≡ verdictOf j → Says w
-    at (refused n i) q e = let y : _≡_ {A = ℕ} 0 1 = cc in unequal y
-    at (sheet s) q e =
-        let one : judgeAll 1 (w ∷ []) ≡ sheets (s ∷ []) = rw q in
-        let (f, r) = all-said (w ∷ []) 1 (s ∷ []) one in
-        let is : s ≡ contentOf (tagsAt w 0) = cc in
-        record { judged = q ∙ ap sheet is; fits = f .0; least = rw (← is) (numbered w s q .least) }
+pub says : (w : List ℕ) → IsSheet w → Says w
+says w q =
+    let is = sheet-by (tagsAt w 0) in
+    record { judged = q ∙ ap sheet is; fits = page-good w _ q; least = rw (← is) (numbered w _ q .least) }
 
 -- ---- the first page
 
@@ -134,15 +131,10 @@ refused-first s v n i e = at (judge v) e
     at (refused m k) e = refl
     at (sheet t) e = let y : _≡_ {A = ℕ} 0 1 = cc in unequal y
 
-module _ (w v : List ℕ) (S : Says v) (y x : ℕ) (p : y ≡ contentOf (tagsAt w 0) .of) (q : x ≡ contentOf (tagsAt v 0) .of) where
-  -- another count
-  pub other-count : (y ≡ x → ⊥) → false ≡ agreesWith (contentOf (tagsAt w 0)) (judge v)
-  other-count h = rw (S .judged, ne-eqb (contentOf (tagsAt w 0) .of) (contentOf (tagsAt v 0) .of) (λ e. h (p ∙ (e ∙ sym q))))
-
-  -- the same count: the heads decide
-  pub by-heads : (r : Bool) → y ≡ x → r ≡ sameHead (headFrom (tagsAt w 0)) (headFrom (tagsAt v 0)) → r ≡ agreesWith (contentOf (tagsAt w 0)) (judge v)
-  unfolding contentOf
-  by-heads r e h = rw (S .judged, eq-eqb (contentOf (tagsAt w 0) .of) (contentOf (tagsAt v 0) .of) (sym p ∙ (e ∙ q))) h
+-- any other is compared with
+pub by-heads : (w v : List ℕ) (r : Bool) → Says v → r ≡ (eqb (contentOf (tagsAt w 0) .of) (contentOf (tagsAt v 0) .of) && sameHead (headFrom (tagsAt w 0)) (headFrom (tagsAt v 0))) → r ≡ agreesWith (contentOf (tagsAt w 0)) (judge v)
+unfolding contentOf
+by-heads w v r S h = rw (S .judged) h
 
 -- no first page
 pub no-first : (pages lens : List ℕ) (n : ℕ) (s : Sheet) → here lens n ≡ false → true ≡ agreesFirst pages lens n s

@@ -1,11 +1,10 @@
 // A page added to a collector: judged, compared with its first page, and kept at its number's place.
 ghost use mathlib.Core.Path.{_≡_};
-ghost use Prim.Native.Nat.{_≤_};
 ghost use lib.ListN.{length};
 ghost use Rattle.paper.specs.Judging.{judge};
 ghost use Rattle.markup.specs.Walk.{tagsAt};
 ghost use Rattle.sheet.specs.Content.{contentOf};
-ghost use Rattle.reader.specs.Joining.{PageFits};
+ghost use Rattle.tape.specs.Making.{IsSheet};
 ghost use Rattle.collector.specs.Keeping.{agreesWith, agreesFirst, firstWith, takenIn, addedTo, addedCall};
 ghost use Rattle.collector.specs.Promise.{Promised};
 use crate::store::Collector;
@@ -13,12 +12,11 @@ use crate::store::PageAt;
 use crate::store::page_at;
 use markup::values::lay;
 use markup::values::spells;
+use reader::alone::belong;
+use reader::alone::numbers_of;
 use reader::answer::Answer as Refusal;
 use reader::answer::refused_page;
 use reader::call::lies_in;
-use reader::joining::same_heads;
-use sheet::content::count_said;
-use sheet::content::number_of;
 use sheet::judge::Verdict;
 use sheet::judge::judge_page;
 
@@ -50,25 +48,20 @@ fn unchanged(c: Collector, answer: Answer) -> Adding
 
 // Whether a page without faults has the head and the count of another page; it has not, where that page has faults.
 fn agrees<'a>(first: &'a [u8], page: &'a [u8]) -> bool
-    requires { ⌜ PageFits (now page) ⌝ }
+    requires { ⌜ IsSheet (now page) ⌝ }
     ensures { λ r. ⌜ r ≡ agreesWith (contentOf (tagsAt (now (page .entry)) 0)) (judge (now (first .entry))) ⌝ }
 {
-    let mut scratch = [0u8; 1400];
+    let mut scratch = [0u8; Collector::PAGE];
     let verdict = judge_page(first, &mut scratch);
     let Verdict::Fine = verdict else {
         return false;
     };
-    let x = count_said(first, &mut scratch);
-    let y = count_said(page, &mut scratch);
-    if y != x {
-        return false;
-    }
-    same_heads(first, page)
+    belong(first, page)
 }
 
 // Whether a page has the head and the count of the collector's first page, or there is none yet.
 fn agrees_first<'a>(pages: &'a [u8], lens: [u16; 9], first: u8, page: &'a [u8]) -> bool
-    requires { ⌜ (length (now pages) ≡ 12600) × PageFits (now page) ⌝ }
+    requires { ⌜ (length (now pages) ≡ 12600) × IsSheet (now page) ⌝ }
     ensures { λ r. ⌜ r ≡ agreesFirst (now (pages .entry)) lens first (contentOf (tagsAt (now (page .entry)) 0)) ⌝ }
 {
     let at = page_at(lens, first);
@@ -91,7 +84,7 @@ fn first_with(lens: [u16; 9], first: u8, n: u8) -> u8
 
 // A page without faults: refused with 9 against the first page, already here, refused with 10, or kept.
 fn take_in(c: Collector, page: &[u8]) -> Adding
-    requires { ⌜ PageFits (now page) × (1 ≤ contentOf (tagsAt (now page) 0) .no) ⌝ }
+    requires { ⌜ IsSheet (now page) ⌝ }
     ensures { λ r. ⌜ Promised (takenIn c (now (page .entry)) (contentOf (tagsAt (now (page .entry)) 0))) (r .answer) (r .collector) ⌝ }
 {
     let mut pages = c.pages;
@@ -99,9 +92,8 @@ fn take_in(c: Collector, page: &[u8]) -> Adding
     if !agrees_first(&pages, lens, c.first, page) {
         return unchanged(c, Answer::Refused(Refusal::OtherHead(1)));
     }
-    let mut scratch = [0u8; 1400];
-    let no = number_of(page, &mut scratch) as u8;
-    let of = count_said(page, &mut scratch) as u8;
+    let said = numbers_of(page);
+    let no = said.no;
     let at = page_at(lens, no);
     if let PageAt::Here { start, len } = at {
         if spells(&pages, start, start + len, page) {
@@ -118,7 +110,7 @@ fn take_in(c: Collector, page: &[u8]) -> Adding
         collector: Collector {
             pages: pages,
             lens: lens,
-            z: of,
+            z: said.of,
             first: first,
         },
     }
@@ -128,7 +120,7 @@ fn take_in(c: Collector, page: &[u8]) -> Adding
 pub fn add_bytes(c: Collector, page: &[u8]) -> Adding
     ensures { λ r. ⌜ Promised (addedTo c (now (page .entry))) (r .answer) (r .collector) ⌝ }
 {
-    let mut scratch = [0u8; 1400];
+    let mut scratch = [0u8; Collector::PAGE];
     let verdict = judge_page(page, &mut scratch);
     if let Verdict::Refused { number, place } = verdict {
         return unchanged(

@@ -130,7 +130,7 @@ fn named(page: &[u8], from: usize, to: usize) -> u8
 }
 
 // The byte that a reference stands for, by its bytes between `&` and `;`; 0 where a value may not hold it.
-fn refers(page: &[u8], from: usize, to: usize) -> u8
+pub fn refers(page: &[u8], from: usize, to: usize) -> u8
     requires { ⌜ (from ≤ to) × (to ≤ length (now page)) ⌝ }
     ensures { λ r. ⌜ r ≡ Paper.refers (slice from to (now (page .entry))) ⌝ }
 {

@@ -114,7 +114,7 @@ fn in_set(b: u8, k: u8) -> bool
 }
 
 // Where the bytes of a set end that begin at `at`.
-fn run(page: &[u8], at: usize, k: u8) -> usize
+pub fn run(page: &[u8], at: usize, k: u8) -> usize
     ensures { λ r. ⌜ (r ≡ at + until (passes k) (drop at (now (page .entry)))) × (at ≤ r) × (at ≤ length (now (page .entry)) → r ≤ length (now (page .entry))) ⌝ }
 {
     let mut i = at;
@@ -129,7 +129,7 @@ fn run(page: &[u8], at: usize, k: u8) -> usize
 }
 
 // The byte at `i`, or 0 behind the page's end.
-fn byte_or(page: &[u8], i: usize) -> u8
+pub fn byte_or(page: &[u8], i: usize) -> u8
     ensures { λ r. ⌜ r ≡ getD (now (page .entry)) i 0 ⌝ }
 {
     if i < page.len() {

@@ -62,7 +62,7 @@ items-weight-append (x ∷ xs) ys = omega (arith, items-weight-append xs ys)
 -- ---- one tag
 
 -- what attributes cost at least
-abbrev attrsSize : List Attr → ℕ
+abbrev pub attrsSize : List Attr → ℕ
 attrsSize [] = 0
 attrsSize (a ∷ l) = 4 + (length (a .name) + length (a .raw)) + attrsSize l
 
@@ -91,22 +91,22 @@ one-attr a l (f ∷ fs) d = let (x, y) = neither (elem (f .letters) (lettersOf f
         omega (arith, weight-up f v (length (a .raw)) (omega (arith, settle-short f (value (a .raw)), value-short (a .raw))), ap length e, ap (slotsWeight fs) skip)
     at false q x ih = omega (arith, ih)
 
-tag-weight : (fs : List Field) (l : List Attr) → twice (lettersOf fs) ≡ false → slotsWeight fs (slotsOf fs l) ≤ attrsSize l
+pub tag-weight : (fs : List Field) (l : List Attr) → twice (lettersOf fs) ≡ false → slotsWeight fs (slotsOf fs l) ≤ attrsSize l
 tag-weight fs [] d = omega (arith, none-weight fs)
 tag-weight fs (a ∷ l) d = omega (arith, one-attr a l fs d, tag-weight fs l d)
 
 -- the space that stands before counts for the attribute behind it
-abbrev flag : Bool → ℕ
+abbrev pub flag : Bool → ℕ
 flag true = 1
 flag false = 0
 
-attrs-long : {b : Bool} {w : List ℕ} {l : List Attr} → Attrs b w l → attrsSize l ≤ length w + flag b
+pub attrs-long : {b : Bool} {w : List ℕ} {l : List Attr} → Attrs b w l → attrsSize l ≤ length w + flag b
 attrs-long end = omega arith
 attrs-long (space {w = w} e p) = omega (arith, attrs-long p)
 attrs-long (attr n u v q r {w = w} h i j k m p) =
     omega (arith, attrs-long p, length-append n (u ++ 61 ∷ (v ++ q ∷ (r ++ q ∷ w))), length-append u (61 ∷ (v ++ q ∷ (r ++ q ∷ w))), length-append v (q ∷ (r ++ q ∷ w)), length-append r (q ∷ w))
 
-name-long : (n : List ℕ) → Name n → 1 ≤ length n
+pub name-long : (n : List ℕ) → Name n → 1 ≤ length n
 name-long [] h = absurd h
 name-long (c ∷ n) h = omega arith
 

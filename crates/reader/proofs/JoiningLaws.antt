@@ -9,32 +9,26 @@ use native.Mathlib.Numerals.{add-one}
 use native.Mathlib.Omega.{arith}
 use lib.Dec.{eqb}
 use lib.ListN.{length, take, drop, getD, set, length-append, drop-of-length-le}
-use lib.Seq.{slice, drop-cons, take-all, take-suc-set}
-use borrow.Author.Tests.{eq-eqb, ne-eqb, eqb-true}
-use Rattle.paper.specs.Lists.{concat, same}
-use Rattle.paper.specs.Grammar.{Tag}
-use Rattle.paper.specs.Plan.{Slots, Head, Row, Plan, sameHead}
+use lib.Seq.{drop-cons, take-suc-set}
+use Rattle.paper.specs.Lists.{concat}
+use Rattle.paper.specs.Plan.{Head, Row, Plan, sameHead}
 use Rattle.paper.specs.Judging.{Sheet}
 use Rattle.paper.specs.Reading.{page9, has, rowsAt, joined}
 use Rattle.paper.specs.Calls.{inside, pagesAt}
 use Rattle.paper.specs.Layout.{headValues, rowValues, rowsValues, textOf}
-use Rattle.paper.proofs.Small.{no, both, same-eq, same-self}
-use Rattle.paper.proofs.AnyOrder.{head-eq}
-use Rattle.paper.proofs.Join.{head-self}
+use Rattle.paper.proofs.Small.{no}
 use Rattle.paper.proofs.CallLaws.{inside-true, pages-count}
 use Rattle.markup.specs.Laid.{laid}
 use Rattle.markup.specs.Walk.{tagsAt}
 use Rattle.markup.proofs.LaidLaws.{Laying, start, next-piece, all-laid}
-use Rattle.plan.specs.Numbers.{rowNumbers, rowsNumbers, headSpans, planNumbers, planRows, showHead}
+use Rattle.plan.specs.Numbers.{rowNumbers, rowsNumbers, planNumbers, planRows}
 use Rattle.plan.specs.declared.Span as Code
 use Rattle.plan.specs.declared.Plan as Numbers
-use Rattle.plan.specs.Records.{noSpan}
-use Rattle.plan.proofs.Shown.{head-back, concat-append, rows-size, text-parts}
+use Rattle.plan.proofs.Shown.{concat-append, rows-size, text-parts}
 use Rattle.reader.specs.Pages.{nosOf, placeOf}
 use Rattle.sheet.specs.Content.{headFrom, rowsFrom, contentOf}
-use Rattle.sheet.specs.Laying.{Room, LaysHead, Fills}
-use Rattle.sheet.proofs.HeadLaws.{head-full}
-use Rattle.reader.specs.Joining.{sheetsOf, sheetAt, PageFits, AllFit, Called, sameSpans, firstOther, countSaid, planIn, noPlan}
+use Rattle.page.specs.Laying.{Room, LaysHead, Fills}
+use Rattle.reader.specs.Joining.{sheetsOf, sheetAt, likeFirst, PageFits, AllFit, Called, firstOther, countSaid, planIn, noPlan}
 use Rattle.reader.proofs.CallFacts.{page-at}
 use Rattle.reader.proofs.PageLaws.{place-rows, place-none}
 
@@ -78,10 +72,6 @@ sheets-from ws i h = rw (add-one i, drop-cons ws i [] h)
 
 -- ---- the first page that is another
 
--- its head and its count are the first page's
-abbrev pub likeFirst : List (List ℕ) → ℕ → Bool
-likeFirst ws i = eqb (sheetAt ws i .of) (sheetAt ws 0 .of) && sameHead (sheetAt ws i .head) (sheetAt ws 0 .head)
-
 -- the first i pages are alike
 abbrev pub AlikeTo : List (List ℕ) → ℕ → Type 0
 AlikeTo ws i = firstOther (sheetsOf ws) ≡ page9 (sheetAt ws 0) (i + 1) (sheetsOf (drop i ws))
@@ -122,110 +112,7 @@ pub count-first : (ws : List (List ℕ)) → 1 ≤ length ws → sheetAt ws 0 .o
 count-first [] h = absurd (omega arith)
 count-first (w ∷ ws) h = refl
 
--- ---- heads
-
-spans-eq : (s t : List Code.Span) → sameSpans s t ≡ true → s ≡ t
-spans-eq [] [] e = refl
-spans-eq [] (y ∷ t) e = no (sym e)
-spans-eq (x ∷ s) [] e = no (sym e)
-spans-eq (x ∷ s) (y ∷ t) e =
-    let (a, b) = both (eqb (x .at) (y .at) && eqb (x .len) (y .len)) (sameSpans s t) e in
-    let (p, q) = both (eqb (x .at) (y .at)) (eqb (x .len) (y .len)) a in
-    make (x .at) (y .at) (x .len) (y .len) (eqb-true (x .at) (y .at) p) (eqb-true (x .len) (y .len) q) s t (spans-eq s t b)
-  where
-    make : (a b c d : ℕ) → a ≡ b → c ≡ d → (s t : List Code.Span) → s ≡ t → record { at = a; len = c } ∷ s ≡ record { at = b; len = d } ∷ t
-    make a b c d p q s t e = rw (p, q, e)
-
-spans-self : (s : List Code.Span) → sameSpans s s ≡ true
-spans-self [] = refl
-spans-self (x ∷ s) = rw (eq-eqb (x .at) (x .at) refl, eq-eqb (x .len) (x .len) refl, spans-self s)
-
--- the spans from j on decide
-abbrev pub SpansTo : List Code.Span → List Code.Span → ℕ → Type 0
-SpansTo a b j = sameSpans a b ≡ sameSpans (drop j a) (drop j b)
-
-module _ (a b : List Code.Span) (j : ℕ) (h : j < length a) (g : j < length b) (E : SpansTo a b j) where
-  step : sameSpans a b ≡ ((eqb (getD a j noSpan .at) (getD b j noSpan .at) && eqb (getD a j noSpan .len) (getD b j noSpan .len)) && sameSpans (drop (j + 1) a) (drop (j + 1) b))
-  step = E ∙ rw (add-one j, drop-cons a j noSpan h, drop-cons b j noSpan g)
-
-  pub spans-at : (getD a j noSpan .at ≡ getD b j noSpan .at → ⊥) → sameSpans a b ≡ false
-  spans-at n = step ∙ rw (ne-eqb (getD a j noSpan .at) (getD b j noSpan .at) n)
-
-  pub spans-len : getD a j noSpan .at ≡ getD b j noSpan .at → (getD a j noSpan .len ≡ getD b j noSpan .len → ⊥) → sameSpans a b ≡ false
-  spans-len e n = step ∙ rw (eq-eqb (getD a j noSpan .at) (getD b j noSpan .at) e, ne-eqb (getD a j noSpan .len) (getD b j noSpan .len) n)
-
-  pub spans-more : getD a j noSpan .at ≡ getD b j noSpan .at → getD a j noSpan .len ≡ getD b j noSpan .len → SpansTo a b (j + 1)
-  spans-more e f = step ∙ rw (eq-eqb (getD a j noSpan .at) (getD b j noSpan .at) e, eq-eqb (getD a j noSpan .len) (getD b j noSpan .len) f)
-
-pub spans-all : (a b : List Code.Span) (j : ℕ) → length a ≤ j → length b ≤ j → SpansTo a b j → sameSpans a b ≡ true
-spans-all a b j h g E = E ∙ rw (drop-of-length-le a h, drop-of-length-le b g)
-
--- a test that passes exactly for equal heads says whether they are the same
-head-test : (k h : Head) (b : Bool) → (k ≡ h → b ≡ true) → (b ≡ true → k ≡ h) → b ≡ sameHead k h
-head-test k h true f g = sym (ap (λ (x : Head). sameHead x h) (g refl) ∙ head-self h)
-head-test k h false f g = at (sameHead k h) refl
-  where
-    at : (b : Bool) → sameHead k h ≡ b → false ≡ b
-    at true e = f (head-eq k h e)
-    at false e = refl
-
--- the plan by value of a head alone
-abbrev headOnly : Head → Plan
-headOnly h = record { head = h; rows = [] }
-
--- a head that was laid to the beginning of a room is shown there
-laid-shown : (ts : List Tag) (room room′ : List ℕ) (e patch : ℕ) (spans : List Code.Span) → LaysHead (headFrom ts) room room′ 0 e patch spans → headFrom ts ≡ showHead room′ (record { patch = patch; rows = 0; head = spans })
-laid-shown ts room room′ e patch spans L =
-    let h : Head = headFrom ts in
-    let p : Numbers.Plan = planNumbers (headOnly h) in
-    let q : record { patch = patch; rows = 0; head = spans } ≡ p = made patch (h .patch) spans (headSpans 0 h) (L .patch-is) (L .spans-are) in
-    sym (ap (showHead room′) q ∙ (ap (λ (t : List ℕ). showHead t p) (L .text-is) ∙ head-back (headOnly h) (drop (0 + length (concat (headValues h))) room) (head-full ts)))
-  where
-    made : (a b : ℕ) (s t : List Code.Span) → a ≡ b → s ≡ t → _≡_ {A = Numbers.Plan} (record { patch = a; rows = 0; head = s }) (record { patch = b; rows = 0; head = t })
-    made a b s t e f = rw (e, f)
-
--- two heads laid into the same room
-pub record Two (a b : List Tag) (room one two : List ℕ) (e f p q : ℕ) (x y : List Code.Span) : Type 0 where
-  pub first : LaysHead (headFrom a) room one 0 e p x
-  pub second : LaysHead (headFrom b) room two 0 f q y
-
--- they are laid
-pub laid-two : {a b : List Tag} {room one two : List ℕ} {e f p q : ℕ} {x y : List Code.Span} → LaysHead (headFrom a) room one 0 e p x → LaysHead (headFrom b) room two 0 f q y → Two a b room one two e f p q x y
-laid-two F S = record { first = F; second = S }
-
-module _ {a b : List Tag} {room one two : List ℕ} {e f p q : ℕ} {x y : List Code.Span} (T : Two a b room one two e f p q x y) where
-  -- the heads differ in the patch
-  pub other-patch : (p ≡ q → ⊥) → false ≡ sameHead (headFrom b) (headFrom a)
-  other-patch n = head-test (headFrom b) (headFrom a) false (λ z. absurd (n (T .first .patch-is ∙ (sym (ap (λ (h : Head). h .patch) z) ∙ sym (T .second .patch-is))))) (λ z. no (sym z))
-
-  -- they differ in the spans
-  pub other-spans : sameSpans x y ≡ false → false ≡ sameHead (headFrom b) (headFrom a)
-  other-spans n =
-      head-test (headFrom b) (headFrom a) false
-      (λ z.
-      let g : x ≡ y = T .first .spans-are ∙ (ap (headSpans 0) (sym z) ∙ sym (T .second .spans-are)) in
-      sym n ∙ (ap (λ (s : List Code.Span). sameSpans s y) g ∙ spans-self y))
-      (λ z. no (sym z))
-
-  -- the rooms decide
-  pub by-rooms : p ≡ q → sameSpans x y ≡ true → same one two ≡ sameHead (headFrom b) (headFrom a)
-  by-rooms u v =
-      let w : x ≡ y = spans-eq x y v in
-      head-test (headFrom b) (headFrom a) (same one two)
-      (λ z.
-      let g : one ≡ two = T .first .text-is ∙ (ap (λ (h : Head). laid room 0 (concat (headValues h))) (sym z) ∙ sym (T .second .text-is)) in
-      ap (λ (s : List ℕ). same s two) g ∙ same-self two)
-      (λ z.
-      laid-shown b room two f q y (T .second)
-      ∙ (rw (← same-eq one two z, ← u, ← w) (sym (laid-shown a room one e p x (T .first)))))
-
--- an empty room for a head
-pub head-room : (vs : Slots) (room : List ℕ) → length room ≡ 1400 → length (concat vs) ≤ 1400 → Room vs room 0
-head-room vs room e h = record { fits = omega (arith, e, h); short = omega (arith, h) }
-
--- a whole room
-pub whole-room : (room : List ℕ) → length room ≡ 1400 → slice 0 1400 room ≡ room
-whole-room room e = take-all 1400 room (omega (arith, e))
+-- ---- heads and rows
 
 -- what a page says of its head and its rows
 pub head-said : (w : List ℕ) → contentOf (tagsAt w 0) .head ≡ headFrom (tagsAt w 0)
@@ -236,16 +123,10 @@ pub rows-said : (w : List ℕ) → contentOf (tagsAt w 0) .rows ≡ rowsFrom (ta
 unfolding contentOf
 rows-said w = refl
 
--- the counts of page i and of the first page differ
-pub other-count : (ws : List (List ℕ)) (i x y : ℕ) → x ≡ sheetAt ws 0 .of → y ≡ sheetAt ws i .of → (x ≡ y → ⊥) → false ≡ likeFirst ws i
-other-count ws i x y e f n = let g : eqb (sheetAt ws i .of) (sheetAt ws 0 .of) ≡ false = ne-eqb (sheetAt ws i .of) (sheetAt ws 0 .of) (λ z. n (e ∙ (sym z ∙ sym f))) in rw g
-
--- they are the same, and the heads decide
-pub same-count : (ws : List (List ℕ)) (i x y : ℕ) (v w : List ℕ) (r : Bool) → x ≡ sheetAt ws 0 .of → y ≡ sheetAt ws i .of → x ≡ y → v ≡ getD ws 0 [] → w ≡ getD ws i []
-    → r ≡ sameHead (headFrom (tagsAt w 0)) (headFrom (tagsAt v 0)) → r ≡ likeFirst ws i
-same-count ws i x y v w r e f n p q h =
-    let g : eqb (sheetAt ws i .of) (sheetAt ws 0 .of) ≡ true = eq-eqb (sheetAt ws i .of) (sheetAt ws 0 .of) (sym f ∙ (sym n ∙ e)) in
-    h ∙ rw (g, p, q, head-said (getD ws 0 []), head-said (getD ws i []))
+-- page i is compared with the first page
+pub alike-first : (ws : List (List ℕ)) (i : ℕ) (v w : List ℕ) (r : Bool) → v ≡ getD ws 0 [] → w ≡ getD ws i []
+    → r ≡ (eqb (contentOf (tagsAt w 0) .of) (contentOf (tagsAt v 0) .of) && sameHead (headFrom (tagsAt w 0)) (headFrom (tagsAt v 0))) → r ≡ likeFirst ws i
+alike-first ws i v w r p q h = h ∙ rw (p, q, head-said (getD ws 0 []), head-said (getD ws i []))
 
 -- ---- the page of a number
 

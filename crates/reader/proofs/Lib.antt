@@ -4,4 +4,5 @@ pub mod Digits
 pub mod JoiningLaws
 pub mod PageLaws
 pub mod ReadingLaws
+pub mod TakenLaws
 pub mod Unique

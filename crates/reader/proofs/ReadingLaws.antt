@@ -116,7 +116,7 @@ page-refused w n i e = at (judge w) refl e
     at (sheet s) p e = let y : _≡_ {A = ℕ} 0 1 = cc in unequal y
 
 -- so where nothing is told, no page is refused
-none-told : (ws : List (List ℕ)) (k : ℕ) → toldOf (judgeAll k ws) .number ≡ 0 → (l : List Sheet) × (judgeAll k ws ≡ sheets l)
+pub none-told : (ws : List (List ℕ)) (k : ℕ) → toldOf (judgeAll k ws) .number ≡ 0 → (l : List Sheet) × (judgeAll k ws ≡ sheets l)
 none-told [] k e = ([], refl)
 none-told (w ∷ ws) k e = at (judge w) refl (judgeAll (suc k) ws) (none-told ws (suc k)) e
   where

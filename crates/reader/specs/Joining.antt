@@ -1,30 +1,37 @@
 -- Joining: what the pages of a call say together, where none of them has a fault.
 -- Assumes nothing.
 use mathlib.Core.List.{List, [], _∷_}
-use mathlib.Core.Bool.{Bool, true, false, _&&_}
+use mathlib.Core.Bool.{Bool, true, _&&_}
 use mathlib.Core.Path.{_≡_}
 use Prim.Native.Nat.{ℕ, _≤_}
 use lib.Dec.{eqb}
 use lib.ListN.{length, getD}
 use Rattle.paper.specs.Lists.{concat}
-use Rattle.paper.specs.Plan.{Plan}
+use Rattle.paper.specs.Plan.{Plan, sameHead}
 use Rattle.paper.specs.Layout.{headValues}
 use Rattle.paper.specs.Calls.{inside, pagesAt}
 use Rattle.paper.specs.Judging.{Sheet}
 use Rattle.paper.specs.Reading.{page9, joined}
 use Rattle.markup.specs.Walk.{tagsAt}
-use Rattle.plan.specs.declared.Span as Code
 use Rattle.sheet.specs.Content.{contentOf, headFrom}
-use Rattle.sheet.specs.Laying.{Fit}
+use Rattle.sheet.specs.Fit.{Fit}
 
 -- what each page says
 abbrev pub sheetsOf : List (List ℕ) → List Sheet
 sheetsOf [] = []
 sheetsOf (w ∷ ws) = contentOf (tagsAt w 0) ∷ sheetsOf ws
 
+-- what the pages of a call say
+abbrev pub said : List ℕ → List ℕ → List ℕ → List Sheet
+said b ss ns = sheetsOf (pagesAt b ss ns)
+
 -- what page i says, counted from 0
 abbrev pub sheetAt : List (List ℕ) → ℕ → Sheet
 sheetAt ws i = contentOf (tagsAt (getD ws i []) 0)
+
+-- the head and the count of page i are the first page's
+abbrev pub likeFirst : List (List ℕ) → ℕ → Bool
+likeFirst ws i = eqb (sheetAt ws i .of) (sheetAt ws 0 .of) && sameHead (sheetAt ws i .head) (sheetAt ws 0 .head)
 
 -- a page that is short enough and can be laid out: its number and count are page numbers, and its head is no longer than a page
 pub record PageFits (w : List ℕ) : Type 0 where
@@ -43,13 +50,6 @@ AllFit (w ∷ ws) = PageFits w × AllFit ws
 pub record Called (b ss ns : List ℕ) : Type 0 where
   pub lie : inside b ss ns ≡ true
   pub fit : AllFit (pagesAt b ss ns)
-
--- two lists of spans are the same
-abbrev pub sameSpans : List Code.Span → List Code.Span → Bool
-sameSpans [] [] = true
-sameSpans [] (y ∷ t) = false
-sameSpans (x ∷ s) [] = false
-sameSpans (x ∷ s) (y ∷ t) = (eqb (x .at) (y .at) && eqb (x .len) (y .len)) && sameSpans s t
 
 -- refusal 9: the first page whose head or count is another than the first page's, or 0
 abbrev pub firstOther : List Sheet → ℕ

@@ -3,3 +3,4 @@ pub mod Promise
 pub mod Answers
 pub mod Pages
 pub mod Joining
+pub mod Tapes

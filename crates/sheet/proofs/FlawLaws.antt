@@ -136,7 +136,7 @@ module _ (f : Field) (v : List ℕ) where
 -- ---- the fields one after another
 
 -- 7, or 8, or m, by two tests
-abbrev byTests : Bool → Bool → ℕ → ℕ
+abbrev pub byTests : Bool → Bool → ℕ → ℕ
 byTests a b m = if a 7 (if b 8 m)
 
 module _ (m : ℕ) (fs : List Field) (vs : Slots) (j : ℕ) (h : j < length fs) (l : j < length vs) where
@@ -317,13 +317,13 @@ module _ (w : List ℕ) (rs : List Raw) (e : ℕ) (h : e < 10) where
 -- ---- MP's number and count
 
 -- nothing, or one digit from 1 to 9
-abbrev One : List ℕ → Type 0
+abbrev pub One : List ℕ → Type 0
 One [] = Unit {0}
 One (c ∷ []) = 49 ≤ c
 One (c ∷ d ∷ v) = ⊥
 
 -- a value that does not break the field of a page number
-one-digit : (n v : List ℕ) → breaks (field MP n pageNo 1 1 0 false) v ≡ false → One v
+pub one-digit : (n v : List ℕ) → breaks (field MP n pageNo 1 1 0 false) v ≡ false → One v
 one-digit n [] e = tt
 one-digit n (c ∷ []) e =
     let k = not-false (keeps (field MP n pageNo 1 1 0 false) (c ∷ [])) e in
@@ -337,7 +337,7 @@ one-digit n (c ∷ d ∷ v) e =
     let q = both (leb 1 (length (c ∷ d ∷ v))) (leb (length (c ∷ d ∷ v)) 1 && (leb (count 126 (c ∷ d ∷ v)) 0 && obeys pageNo (c ∷ d ∷ v))) (p .1) in
     no (sym (both (leb (length (c ∷ d ∷ v)) 1) (leb (count 126 (c ∷ d ∷ v)) 0 && obeys pageNo (c ∷ d ∷ v)) (q .1) .0) ∙ r)
 
-unbroken-at : (fs : List Field) (vs : Slots) (j : ℕ) → broken fs vs ≡ false → j < length fs → length vs ≡ length fs → breaks (getD fs j noField) (getD vs j []) ≡ false
+pub unbroken-at : (fs : List Field) (vs : Slots) (j : ℕ) → broken fs vs ≡ false → j < length fs → length vs ≡ length fs → breaks (getD fs j noField) (getD vs j []) ≡ false
 unbroken-at [] vs j e h l = absurd (omega arith)
 unbroken-at (f ∷ fs) [] j e h l = absurd (omega arith)
 unbroken-at (f ∷ fs) (v ∷ vs) zero e h l = neither (breaks f v) (broken fs vs) e .0
@@ -355,10 +355,10 @@ module _ (w : List ℕ) (rs : List Raw) (e : broken (fieldsOf MP) (told w MP rs)
       (rw (slot-at w MP rs 5 (omega arith)) at (unbroken-at (fieldsOf MP) (told w MP rs) 5 e (omega arith) (slots-long w MP rs)))
 
 -- the fault of two such values
-abbrev pairFlaw : List ℕ → List ℕ → ℕ
+abbrev pub pairFlaw : List ℕ → List ℕ → ℕ
 pairFlaw a z = byTests (not (isEmpty z) && ltb (number 0 z) (number 0 a)) ((isEmpty a && not (isEmpty z)) || (not (isEmpty a) && isEmpty z)) 9
 
-by-digits : (a z : List ℕ) → One a → One z → digitsFlaw (getD a 0 0) (getD z 0 0) ≡ pairFlaw a z
+pub by-digits : (a z : List ℕ) → One a → One z → digitsFlaw (getD a 0 0) (getD z 0 0) ≡ pairFlaw a z
 unfolding digitsFlaw
 by-digits [] [] p q = refl
 by-digits [] (d ∷ []) p q = rw (ne-eqb d 0 (λ e. omega arith), le-ltb (0 * 10 + (d - 48)) 0 (omega arith))

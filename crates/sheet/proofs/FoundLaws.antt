@@ -46,7 +46,7 @@ slots-found (f ∷ fs) l = rw (found-raw l (f .letters), slots-found fs l)
 abbrev pub attr : List ℕ → List ℕ → Attr
 attr n r = record { name = n; raw = r }
 
-names-append : (l m : List Attr) → names (l ++ m) ≡ names l ++ names m
+pub names-append : (l m : List Attr) → names (l ++ m) ≡ names l ++ names m
 names-append [] m = refl
 names-append (a ∷ l) m = rw (names-append l m)
 
@@ -88,7 +88,7 @@ there-skip [] l n r e = refl
 there-skip (f ∷ fs) l n r e = let (x, y) = neither (same n (f .letters)) (elem n (lettersOf fs)) e in rw (there-other l n r (f .letters) x, there-skip fs l n r y)
 
 -- the raw bytes of one attribute more stand at the place of its field
-raws-more : (fs : List Field) (l : List Attr) (n r : List ℕ) → twice (lettersOf fs) ≡ false → elem n (names l) ≡ false
+pub raws-more : (fs : List Field) (l : List Attr) (n r : List ℕ) → twice (lettersOf fs) ≡ false → elem n (names l) ≡ false
     → rawsIn fs (l ++ (attr n r ∷ [])) ≡ set (rawsIn fs l) (placeIn n fs) r
 raws-more [] l n r d e = refl
 raws-more (f ∷ fs) l n r d e =
@@ -100,7 +100,7 @@ raws-more (f ∷ fs) l n r d e =
     go true q x ih = let z = same-eq n (f .letters) q in rw (← z, raw-own l n r e, raws-skip fs l n r (rw (z) x))
     go false q x ih = rw (raw-other l n r (f .letters) q, ih)
 
-there-more : (fs : List Field) (l : List Attr) (n r : List ℕ) → twice (lettersOf fs) ≡ false
+pub there-more : (fs : List Field) (l : List Attr) (n r : List ℕ) → twice (lettersOf fs) ≡ false
     → thereIn fs (l ++ (attr n r ∷ [])) ≡ set (thereIn fs l) (placeIn n fs) true
 there-more [] l n r d = refl
 there-more (f ∷ fs) l n r d =
@@ -188,10 +188,10 @@ few-fields e h = leb-true (countOf (kindAt e)) 14 (below-at 10 (λ (n : ℕ). le
 
 -- ---- strange attributes
 
-abbrev fits : Kind → List ℕ → Bool
+abbrev pub fits : Kind → List ℕ → Bool
 fits k n = elem n (lettersOf (fieldsOf k))
 
-every-seam : (p : List ℕ → Bool) (l m : List (List ℕ)) → every p (l ++ m) ≡ every p l && every p m
+pub every-seam : (p : List ℕ → Bool) (l m : List (List ℕ)) → every p (l ++ m) ≡ every p l && every p m
 every-seam p [] m = refl
 every-seam p (x ∷ l) m = go (p x) (every-seam p l m)
   where
@@ -211,7 +211,7 @@ twice-seam (x ∷ l) m n e = go (same n x) refl e (twice-seam l m n)
     go true q h ih = rw (elem-append x l (n ∷ m), same-comm x n, q, or-true (elem x l))
     go false q h ih = rw (ih h) (or-true (elem x (l ++ n ∷ m)))
 
-once-more : (l : List (List ℕ)) (n : List ℕ) → twice l ≡ false → elem n l ≡ false → twice (l ++ (n ∷ [])) ≡ false
+pub once-more : (l : List (List ℕ)) (n : List ℕ) → twice l ≡ false → elem n l ≡ false → twice (l ++ (n ∷ [])) ≡ false
 once-more [] n d e = refl
 once-more (x ∷ l) n d e =
     let (a, b) = neither (elem x l) (twice l) d in

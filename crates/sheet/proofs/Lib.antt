@@ -1,13 +1,10 @@
-pub mod ContentLaws
 pub mod FlawLaws
 pub mod FoldContent
 pub mod FoldJudge
 pub mod FoundLaws
-pub mod HeadLaws
 pub mod JudgeLaws
 pub mod LeastLaws
 pub mod Nesting
 pub mod PageLaws
 pub mod Places
-pub mod RowLaws
 pub mod StateLaws

@@ -26,7 +26,7 @@ use Rattle.markup.proofs.Walked.{walked}
 use Rattle.plan.proofs.Shown.{concat-append}
 use Rattle.sheet.specs.Fold.{strange}
 use Rattle.sheet.specs.Content.{kindNamed, wsFrom, rowsFrom, headFrom, contentOf}
-use Rattle.sheet.specs.Laying.{Sound, Fit}
+use Rattle.sheet.specs.Fit.{Sound, Fit}
 use Rattle.sheet.proofs.FoldContent.{kind-in, content-is}
 
 -- ---- tags without faults

@@ -185,7 +185,7 @@ fn edition_differs(page: &[u8], kind: u8, raws: [Raw; 16], scratch: &mut [u8]) -
 }
 
 // The fault of a page's number a and the count of pages z by their digits, 0 for an absent one.
-fn digits_flaw(a: u8, z: u8) -> u8
+pub fn digits_flaw(a: u8, z: u8) -> u8
     ensures { λ r. ⌜ r ≡ digitsFlaw a z ⌝ }
 {
     if z == 0 {

@@ -1,5 +1,4 @@
-// One page: the attributes of each tag by the fields of its element, whether the page is refused, with which number and where, and what it says.
-pub mod content;
+// One page: the attributes of each tag by the fields of its element, and whether the page is refused, with which number and where.
 pub mod flaws;
 pub mod found;
 pub mod judge;

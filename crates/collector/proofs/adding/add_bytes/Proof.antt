@@ -2,15 +2,17 @@
 -- Assumes nothing.
 use mathlib.Core.Path.{sym, _∙_}
 use denote.Ref.{now}
+use Rattle.tape.specs.Making.{IsSheet}
+use Rattle.tape.proofs.PageLaws.{fine-sheet}
 use Rattle.reader.proofs.ReadingLaws.{page-refused}
-use Rattle.collector.proofs.KeepLaws.{Says, says, promised-same, adds-refused, adds-taken}
+use Rattle.collector.proofs.KeepLaws.{says, promised-same, adds-refused, adds-taken}
 use borrow.Author.Needs.{needs}
 use Rattle.collector.proofs.adding.add_bytes.Statement.{statement}
 use Rattle.collector.proofs.adding.add_bytes.Tie as tie
 
 -- the page has no fault
-fine-at : (c : tie.After-enum-told) → Says (now (c .before .before .before .before .before .before .args .page))
-fine-at c = says _ (sym (c .enum-told .given .1) ∙ c .before .before .before .judge-page .ensures)
+fine-at : (c : tie.After-enum-told) → IsSheet (now (c .before .before .before .before .before .before .args .page))
+fine-at c = fine-sheet _ (sym (c .enum-told .given .1) ∙ c .before .before .before .judge-page .ensures)
 
 slice-aggregate-judge-page : tie.Need-slice-aggregate-judge-page
 slice-aggregate-judge-page c = search needs
@@ -45,10 +47,10 @@ enum-told : tie.Need-enum-told
 enum-told c = search needs
 
 take-in-requires : tie.Need-take-in-requires
-take-in-requires c κs = let S = fine-at c in (S .fits, S .least)
+take-in-requires c κs = fine-at c
 
 returns-2 : tie.Need-returns-2
-returns-2 c = rw (← adds-taken _ _ (fine-at (c .before))) (c .take-in .ensures)
+returns-2 c = rw (← adds-taken _ _ (says _ (fine-at (c .before)))) (c .take-in .ensures)
 
 pub add-bytes-spec : {M : Type 1} → statement M
 add-bytes-spec =

@@ -10,10 +10,10 @@ use Rattle.paper.specs.Lists.{same}
 use Rattle.markup.specs.Walk.{tagsAt}
 use Rattle.sheet.specs.Content.{contentOf}
 use Rattle.collector.specs.Keeping.{here, kept, agreesFirst}
-use Rattle.collector.proofs.KeepLaws.{Place, place, told-missing, same-kept, promised-same, takes-other, takes-same, takes-second, takes-new, keeps}
-use borrow.Author.Needs.{needs}
+use Rattle.collector.proofs.KeepLaws.{Says, says, Place, place, told-missing, same-kept, promised-same, takes-other, takes-same, takes-second, takes-new, keeps}
 use Rattle.collector.proofs.adding.take_in.Statement.{statement}
 use Rattle.collector.proofs.adding.take_in.Tie as tie
+use borrow.Author.Needs.{needs}
 
 -- where the call began
 abbrev start-of : tie.After-agrees-first → tie.Start
@@ -23,20 +23,24 @@ start-of c = c .before .before .before .before .before
 long-at : (s : tie.Start) → length (s .args .c .pages) ≡ 12600
 long-at s = search needs
 
+-- what the page says
+says-at : (s : tie.Start) → Says (now (s .args .page))
+says-at s = says _ (s .pre)
+
 -- the page agrees with the first page
 alike-at : (c : tie.Else1) → let a = start-of (c .before) .args in agreesFirst (a .c .pages) (a .c .lens) (a .c .first) (contentOf (tagsAt (now (a .page)) 0)) ≡ true
 alike-at c = sym (c .before .agrees-first .ensures) ∙ not-false _ (c .if1 .left)
 
 -- where the test of the first page was passed, behind the page's number
 abbrev passed : tie.After-page-at → tie.Else1
-passed c = c .before .before .before .before .before .before .before
+passed c = c .before .before
 
 -- the number that the page says
-number-at : (c : tie.After-page-at) → let a = start-of (passed c .before) .args in c .before .before .before .before .before .number-of .result ≡ contentOf (tagsAt (now (a .page)) 0) .no
-number-at c = c .before .before .before .before .before .number-of .ensures
+number-at : (c : tie.After-page-at) → let a = start-of (passed c .before) .args in c .before .numbers-of .result .no ≡ contentOf (tagsAt (now (a .page)) 0) .no
+number-at c = c .before .numbers-of .ensures .0
 
 -- the place of the page that is kept for it
-place-at : (c : tie.After-known-told) → let P = c .before .before .before in Place (start-of (passed P .before) .args .c .lens) (P .before .before .before .before .before .number-of .result) (c .before .at .given .0 .0) (c .before .at .given .0 .1 .0)
+place-at : (c : tie.After-known-told) → let P = c .before .before .before in Place (start-of (passed P .before) .args .c .lens) (P .before .numbers-of .result .no) (c .before .at .given .0 .0) (c .before .at .given .0 .1 .0)
 place-at c = place _ _ _ _ (sym (c .before .at .given .1) ∙ c .before .before .before .page-at .ensures)
 
 -- whether its bytes are the page's
@@ -62,23 +66,8 @@ returns c =
     let A = c .before .before in
     promised-same _ _ _ _ _ (c .unchanged .ensures .0) (c .unchanged .ensures .1) (takes-other (start-of A .args .c) _ _ (sym (A .agrees-first .ensures) ∙ not-true _ (c .before .if1 .taken)))
 
-slice-aggregate-number-of : tie.Need-slice-aggregate-number-of
-slice-aggregate-number-of c = search needs
-
-number-of-requires : tie.Need-number-of-requires
-number-of-requires c κs = search needs
-
-cast-no : tie.Need-cast-no
-cast-no c = search needs
-
-slice-aggregate-count-said : tie.Need-slice-aggregate-count-said
-slice-aggregate-count-said c = search needs
-
-count-said-requires : tie.Need-count-said-requires
-count-said-requires c κs = search needs
-
-cast-of : tie.Need-cast-of
-cast-of c = search needs
+numbers-of-requires : tie.Need-numbers-of-requires
+numbers-of-requires c κs = search needs
 
 page-at-requires : tie.Need-page-at-requires
 page-at-requires c κs = search needs
@@ -127,7 +116,7 @@ cast-i : tie.Need-cast-i
 cast-i c = search needs
 
 sub-i : tie.Need-sub-i
-sub-i c = search needs
+sub-i c = omega (arith, number-at (c .before .before .before), says-at (c .before .before .before .before .before .before .before .before .before .before .before) .least)
 
 slice-aggregate-lay : tie.Need-slice-aggregate-lay
 slice-aggregate-lay c = search needs
@@ -137,18 +126,19 @@ mul-lay c = search needs
 
 lay-requires : tie.Need-lay-requires
 lay-requires c κs =
-    let P = c .before .before .before .before in
-    let S = start-of (passed P .before) in
-    omega (arith, long-at S, number-at P, S .pre .0 .short, S .pre .0 .no-small, S .pre .1)
+    let s = says-at (c .before .before .before .before .before .before .before .before .before .before .before .before) in
+    omega (arith, long-at (c .before .before .before .before .before .before .before .before .before .before .before .before), number-at (c .before .before .before .before), s .fits .short, s .fits .no-small, s .least)
 
 cast-lens : tie.Need-cast-lens
-cast-lens c = search needs
+cast-lens c = omega (arith, says-at (c .before .before .before .before .before .before .before .before .before .before .before .before .before .before) .fits .short)
 
 mul-lens : tie.Need-mul-lens
 mul-lens c = search needs
 
 array-write-lens : tie.Need-array-write-lens
-array-write-lens c = search needs
+array-write-lens c =
+    let s = says-at (c .before .before .before .before .before .before .before .before .before .before .before .before .before .before) in
+    omega (arith, number-at (c .before .before .before .before .before .before), s .fits .no-small, s .least)
 
 returns-4 : tie.Need-returns-4
 returns-4 c =
@@ -158,7 +148,7 @@ returns-4 c =
     let a = start-of (passed P .before) .args in
     let e : here (a .c .lens) (contentOf (tagsAt (now (a .page)) 0) .no) ≡ false = ap (here (a .c .lens)) (sym (number-at P)) ∙ told-missing _ _ _ (sym (N .before .enum-told .given .1) ∙ P .page-at .ensures) in
     takes-new (a .c) (now (a .page)) (contentOf (tagsAt (now (a .page)) 0)) (alike-at (passed P)) e _
-    (keeps (a .c) (now (a .page)) (contentOf (tagsAt (now (a .page)) 0)) _ _ _ _ (number-at P) (P .before .before .count-said .ensures) (N .first-with .ensures) (Y .lay .ensures .1))
+    (keeps (a .c) (now (a .page)) (contentOf (tagsAt (now (a .page)) 0)) _ _ _ _ (number-at P) (P .before .numbers-of .ensures .1) (N .first-with .ensures) (Y .lay .ensures .1))
 
 pub take-in-spec : {M : Type 1} → statement M
 take-in-spec =
@@ -168,12 +158,7 @@ take-in-spec =
     agrees-first-requires
     unchanged-requires
     returns
-    slice-aggregate-number-of
-    number-of-requires
-    cast-no
-    slice-aggregate-count-said
-    count-said-requires
-    cast-of
+    numbers-of-requires
     page-at-requires
     enum-known-at
     slice-aggregate-spells

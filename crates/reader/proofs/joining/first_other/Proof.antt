@@ -1,4 +1,4 @@
--- `sheet::joining::first_other` meets its contract: the pages that are left decide.
+-- `reader::joining::first_other` meets its contract: the pages that are left decide.
 -- Assumes nothing.
 use mathlib.Core.Path.{_≡_, sym, _∙_}
 use Prim.Native.Nat.{_-_, _≤_}
@@ -7,37 +7,33 @@ use lib.ListN.{length}
 use Rattle.paper.specs.Calls.{pagesAt}
 use Rattle.paper.proofs.Small.{no-not}
 use Rattle.paper.proofs.CallLaws.{pages-count}
-use Rattle.sheet.proofs.HeadLaws.{not-false}
+use Rattle.page.proofs.HeadLaws.{not-false}
 use Rattle.reader.proofs.JoiningLaws.{AlikeTo, alike-one, alike-more, other-here, none-other}
-use borrow.Author.Needs.{needs}
 use Rattle.reader.proofs.joining.first_other.Statement.{statement}
 use Rattle.reader.proofs.joining.first_other.Tie as tie
+use borrow.Author.Needs.{needs}
 
 abbrev Inv-loop : tie.InvT-loop
-Inv-loop b ss ns n i₀ i = (1 ≤ i) × (i ≤ length ss) × (length (pagesAt b ss ns) ≡ length ss) × AlikeTo (pagesAt b ss ns) i
+Inv-loop b ss ns x t fs h n i₀ i = (1 ≤ i) × (i ≤ length ss) × (length (pagesAt b ss ns) ≡ length ss) × AlikeTo (pagesAt b ss ns) i
 
 abbrev μ-loop : tie.MeasureT-loop
-μ-loop b ss ns n i₀ i = length ss - i
+μ-loop b ss ns x t fs h n i₀ i = length ss - i
 
 loop-holds : tie.Need-loop-holds Inv-loop μ-loop
 loop-holds c =
-    let S = c .before .before .before in
+    let S = c .before .before .before .before .before in
     let a = S .args in
     let h = pages-count (a .buffer .now) (a .starts .now) (a .lens .now) (S .pre .2 .lie) in
     (search needs, search needs, h, alike-one (pagesAt (a .buffer .now) (a .starts .now) (a .lens .now)) (omega (arith, h, S .pre .0)))
 
 like-first-requires : tie.Need-like-first-requires Inv-loop μ-loop
-like-first-requires c κs =
-    let L = c .before in
-    let S = L .before .before .before .before in (c .loop-test .taken, S .pre .2)
+like-first-requires c κs = (c .loop-test .taken, c .before .before .before .before .before .before .before .pre .2, c .before .before .before .before .before .before .before .pre .3)
 
 add-result : tie.Need-add-result Inv-loop μ-loop
 add-result c = search needs
 
 returns : tie.Need-returns Inv-loop μ-loop
-returns c =
-    let L = c .before .before .before in
-    sym (other-here _ (L .loop .i) (search needs) (L .loop .inv .3) (sym (c .before .like-first .ensures) ∙ no-not _ (c .if1 .taken)))
+returns c = let L = c .before .before .before in sym (other-here (pagesAt (c .before .before .before .before .before .before .before .before .before .args .buffer .now) (c .before .before .before .before .before .before .before .before .before .args .starts .now) (c .before .before .before .before .before .before .before .before .before .args .lens .now)) (L .loop .i) (omega (arith, L .loop .inv .2, c .before .before .loop-test .taken)) (L .loop .inv .3) (sym (c .before .like-first .ensures) ∙ no-not _ (c .if1 .taken)))
 
 add-i : tie.Need-add-i Inv-loop μ-loop
 add-i c = search needs
@@ -48,10 +44,10 @@ loop-less c = search needs
 loop-again : tie.Need-loop-again Inv-loop μ-loop
 loop-again c =
     let L = c .before .before .before in
-    let v = L .loop .inv in (search needs, search needs, v .2, alike-more _ (L .loop .i) (search needs) (v .3) (sym (c .before .like-first .ensures) ∙ not-false _ (c .if1 .left)))
+    let v = L .loop .inv in (search needs, search needs, v .2, alike-more (pagesAt (c .before .before .before .before .before .before .before .before .before .args .buffer .now) (c .before .before .before .before .before .before .before .before .before .args .starts .now) (c .before .before .before .before .before .before .before .before .before .args .lens .now)) (L .loop .i) (omega (arith, v .2, c .before .before .loop-test .taken)) (v .3) (sym (c .before .like-first .ensures) ∙ not-false _ (c .if1 .left)))
 
 returns-2 : tie.Need-returns-2 Inv-loop μ-loop
-returns-2 c = let L = c .before in sym (none-other _ (L .loop .i) (search needs) (L .loop .inv .3))
+returns-2 c = let L = c .before in sym (none-other (pagesAt (c .before .before .before .before .before .before .before .args .buffer .now) (c .before .before .before .before .before .before .before .args .starts .now) (c .before .before .before .before .before .before .before .args .lens .now)) (L .loop .i) (omega (arith, L .loop .inv .2, c .loop-test .left)) (L .loop .inv .3))
 
 pub first-other-spec : {M : Type 1} → statement M
 first-other-spec =

@@ -1,60 +1,67 @@
--- `sheet::joining::like_first` meets its contract: the counts decide where they differ, else the heads.
+-- `reader::joining::like_first` meets its contract: it compares page i with the first page.
 -- Assumes nothing.
+use mathlib.Core.Path.{sym, subst}
+use mathlib.Core.List.{List}
+use Prim.Native.Nat.{ℕ}
 use native.Mathlib.Omega.{arith}
 use Rattle.paper.specs.Calls.{pagesAt}
-use Rattle.reader.proofs.JoiningLaws.{page-fits, other-count, same-count}
+use Rattle.page.specs.Walking.{HeadAt}
+use Rattle.reader.proofs.JoiningLaws.{page-fits, alike-first}
+use Rattle.reader.proofs.TakenLaws.{called, read-at}
 use Rattle.reader.proofs.joining.like_first.Statement.{statement}
 use Rattle.reader.proofs.joining.like_first.Tie as tie
-
-count-at-requires : tie.Need-count-at-requires
-count-at-requires c κs =
-    let S = c .before .before .before in
-    let h = S .pre .0 in (omega arith, S .pre .1)
-
-count-at-requires-2 : tie.Need-count-at-requires-2
-count-at-requires-2 c κs =
-    let S = c .before .before .before .before in S .pre
-
-returns : tie.Need-returns
-returns c =
-    let D = c .before in
-    let C = D .before in
-    let a = C .before .before .before .before .args in other-count (pagesAt (a .buffer .now) (a .starts .now) (a .lens .now)) (a .i) _ _ (C .count-at .ensures) (D .count-at2 .ensures) (c .if1 .taken)
+use borrow.Author.Needs.{needs}
 
 page-at-requires : tie.Need-page-at-requires
-page-at-requires c κs =
-    let S = c .before .before .before .before .before .before in
-    let h = S .pre .0 in (omega arith, S .pre .1 .lie)
+page-at-requires c κs = (omega (arith, (c .before .before .before .before .before) .pre .0), (c .before .before .before .before .before) .pre .1 .lie)
 
 page-at-requires-2 : tie.Need-page-at-requires-2
-page-at-requires-2 c κs =
-    let S = c .before .before .before .before .before .before .before in (S .pre .0, S .pre .1 .lie)
+page-at-requires-2 c κs = ((c .before .before .before .before .before .before) .pre .0, (c .before .before .before .before .before .before) .pre .1 .lie)
 
-same-heads-requires : tie.Need-same-heads-requires
-same-heads-requires c κs =
-    let P = c .before in
-    let S = P .before .before .before .before .before .before .before in
-    let h = S .pre .0 in
-    (page-fits {i = 0} (S .pre .1) (omega arith) (P .page-at .ensures), page-fits (S .pre .1) h (c .page-at2 .ensures))
+mul-find-head : tie.Need-mul-find-head
+mul-find-head c = search needs
 
-returns-2 : tie.Need-returns-2
-returns-2 c =
-    let Q = c .before in
-    let P = Q .before in
-    let E = P .before in
-    let D = E .before in
-    let C = D .before in
-    let a = C .before .before .before .before .args in
-    same-count (pagesAt (a .buffer .now) (a .starts .now) (a .lens .now)) (a .i) _ _ _ _ _ (C .count-at .ensures) (D .count-at2 .ensures) (E .if1 .left) (P .page-at .ensures) (Q .page-at2 .ensures) (c .same-heads .ensures)
+element-copy-out-find-head : tie.Need-element-copy-out-find-head
+element-copy-out-find-head c = omega (arith, (c .before .before .before .before .before .before .before) .pre .0, (c .before .before .before .before .before .before .before) .pre .1 .nine)
+
+add-find-head : tie.Need-add-find-head
+add-find-head c = search needs
+
+mul-find-head-2 : tie.Need-mul-find-head-2
+mul-find-head-2 c = search needs
+
+element-copy-out-find-head-2 : tie.Need-element-copy-out-find-head-2
+element-copy-out-find-head-2 c = omega (arith, (c .before .before .before .before .before .before .before .before) .pre .0, (c .before .before .before .before .before .before .before .before) .pre .1 .nine)
+
+find-head-requires : tie.Need-find-head-requires
+find-head-requires c κs = read-at ((c .before .before .before .before .before .before .before .before .before) .pre .1) ((c .before .before .before .before .before .before .before .before .before) .args .i) ((c .before .before .before .before .before .before .before .before .before) .pre .0) ((c .before .before) .page-at2 .ensures)
+
+alike-requires : tie.Need-alike-requires
+alike-requires c κs =
+    let s = (c .before .before .before .before .before .before .before .before .before .before) in
+    let T = called (s .pre .1) in
+    let one = (c .before .before .before .before) .page-at .ensures in
+    let two = (c .before .before .before) .page-at2 .ensures in (
+      subst (λ (w : List ℕ). HeadAt w (s .args .side .now) (s .args .tape .now) (s .args .h)) (sym one) (s .pre .2),
+      page-fits {i = 0} T (omega (arith, s .pre .0)) one .fit,
+      c .find-head .ensures,
+      page-fits T (s .pre .0) two .fit,
+    )
+
+returns : tie.Need-returns
+returns c = let s = (c .before .before .before .before .before .before .before .before .before .before .before) .args in alike-first (pagesAt (s .buffer .now) (s .starts .now) (s .lens .now)) (s .i) _ _ _ ((c .before .before .before .before .before) .page-at .ensures) ((c .before .before .before .before) .page-at2 .ensures) (c .alike .ensures)
 
 pub like-first-spec : {M : Type 1} → statement M
 like-first-spec =
     tie.close
     (tie.spec
-    count-at-requires
-    count-at-requires-2
-    returns
     page-at-requires
     page-at-requires-2
-    same-heads-requires
-    returns-2)
+    mul-find-head
+    element-copy-out-find-head
+    add-find-head
+    mul-find-head-2
+    element-copy-out-find-head-2
+    find-head-requires
+    alike-requires
+    returns)

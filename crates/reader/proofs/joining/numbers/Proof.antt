@@ -1,4 +1,4 @@
--- `sheet::joining::numbers` meets its contract: the numbers are those that stand in the array and those of the pages that are left.
+-- `reader::joining::numbers` meets its contract: the numbers are those that stand in the array and those of the pages that are left.
 -- Assumes nothing.
 use mathlib.Core.Path.{_≡_, refl, subst}
 use Prim.Native.Nat.{_-_, _≤_}
@@ -7,23 +7,21 @@ use lib.ListN.{length, length-set}
 use Rattle.paper.specs.Calls.{pagesAt}
 use Rattle.paper.proofs.CallLaws.{pages-count}
 use Rattle.reader.proofs.JoiningLaws.{Numbered, numbered-more, numbered-all}
-use borrow.Author.Needs.{needs}
 use Rattle.reader.proofs.joining.numbers.Statement.{statement}
 use Rattle.reader.proofs.joining.numbers.Tie as tie
+use borrow.Author.Needs.{needs}
 
 abbrev Inv-loop : tie.InvT-loop
-Inv-loop b ss ns n nos₀ i₀ nos i = (i ≤ length ss) × (length nos ≡ 9) × Numbered (pagesAt b ss ns) nos i
+Inv-loop b ss ns x t fs n nos₀ i₀ nos i = (i ≤ length ss) × (length nos ≡ 9) × Numbered (pagesAt b ss ns) nos i
 
 abbrev μ-loop : tie.MeasureT-loop
-μ-loop b ss ns n nos₀ i₀ nos i = length ss - i
+μ-loop b ss ns x t fs n nos₀ i₀ nos i = length ss - i
 
 loop-holds : tie.Need-loop-holds Inv-loop μ-loop
 loop-holds c = (search needs, refl, refl)
 
 number-at-requires : tie.Need-number-at-requires Inv-loop μ-loop
-number-at-requires c κs =
-    let L = c .before in
-    let S = L .before .before .before .before in (c .loop-test .taken, S .pre .1)
+number-at-requires c κs = (c .loop-test .taken, c .before .before .before .before .before .before .before .pre .1)
 
 array-write-nos : tie.Need-array-write-nos Inv-loop μ-loop
 array-write-nos c = search needs
@@ -36,23 +34,20 @@ loop-less c = search needs
 
 loop-again : tie.Need-loop-again Inv-loop μ-loop
 loop-again c =
-    let I = c .before in
-    let L = I .before in
-    let S = L .before .before .before .before in
-    let a = S .args in
-    let h = pages-count (a .buffer .now) (a .starts .now) (a .lens .now) (S .pre .1 .lie) in
-    let t = I .loop-test .taken in
-    let n = S .pre .0 in
+    let L = c .before .before in
+    let a = c .before .before .before .before .before .before .before .before .args in
+    let h = pages-count (a .buffer .now) (a .starts .now) (a .lens .now) (c .before .before .before .before .before .before .before .before .pre .1 .lie) in
+    let t = c .before .loop-test .taken in
+    let n = c .before .before .before .before .before .before .before .before .pre .0 in
     let w = L .loop .inv .1 in
-    (search needs, simp length-set w, numbered-more (pagesAt (a .buffer .now) (a .starts .now) (a .lens .now)) (L .loop .nos) (L .loop .i) _ (omega arith) (omega arith) (c .number-at .ensures) (L .loop .inv .2))
+    (search needs, simp length-set w, numbered-more (pagesAt (a .buffer .now) (a .starts .now) (a .lens .now)) (L .loop .nos) (L .loop .i) _ (omega (arith, h, t)) (omega (arith, t, n, w)) (c .number-at .ensures) (L .loop .inv .2))
 
 returns : tie.Need-returns Inv-loop μ-loop
 returns c =
     let L = c .before in
-    let S = L .before .before .before .before in
-    let a = S .args in
-    let h = pages-count (a .buffer .now) (a .starts .now) (a .lens .now) (S .pre .1 .lie) in
-    let e : L .loop .i ≡ length (a .starts .now) = omega arith in
+    let a = c .before .before .before .before .before .before .before .args in
+    let h = pages-count (a .buffer .now) (a .starts .now) (a .lens .now) (c .before .before .before .before .before .before .before .pre .1 .lie) in
+    let e : L .loop .i ≡ length (a .starts .now) = omega (arith, L .loop .inv .0, c .loop-test .left) in
     numbered-all (pagesAt (a .buffer .now) (a .starts .now) (a .lens .now)) (L .loop .nos) (length (a .starts .now)) h (subst (λ i. Numbered (pagesAt (a .buffer .now) (a .starts .now) (a .lens .now)) (L .loop .nos) i) e (L .loop .inv .2))
 
 pub numbers-spec : {M : Type 1} → statement M

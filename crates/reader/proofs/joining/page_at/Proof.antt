@@ -1,4 +1,4 @@
--- `sheet::joining::page_at` meets its contract: the part that is handed back is the page.
+-- `reader::joining::page_at` meets its contract: the part that is handed back is the page.
 -- Assumes nothing.
 use mathlib.Core.Path.{refl}
 use Prim.Native.Nat.{_+_, _≤_}
@@ -6,9 +6,9 @@ use native.Mathlib.Omega.{arith}
 use lib.ListN.{length, getD}
 use Rattle.paper.proofs.CallLaws.{inside-true}
 use Rattle.reader.proofs.JoiningLaws.{part-at}
-use borrow.Author.Needs.{needs}
 use Rattle.reader.proofs.joining.page_at.Statement.{statement}
 use Rattle.reader.proofs.joining.page_at.Tie as tie
+use borrow.Author.Needs.{needs}
 
 -- the page ends within the buffer
 ends-in : (S : tie.Start) → getD (S .args .starts .now) (S .args .i) 0 + getD (S .args .lens .now) (S .args .i) 0 ≤ length (S .args .buffer .now)
@@ -24,13 +24,10 @@ mul-n : tie.Need-mul-n
 mul-n c = search needs
 
 shared-slice-read-n : tie.Need-shared-slice-read-n
-shared-slice-read-n c =
-    let S = c .before .before in
-    let e = inside-true (S .args .buffer .now) (S .args .starts .now) (S .args .lens .now) (S .pre .1) .alike in omega (arith, e, S .pre .0)
+shared-slice-read-n c = let S = c .before .before in let e = inside-true (S .args .buffer .now) (S .args .starts .now) (S .args .lens .now) (S .pre .1) .alike in omega (arith, e, S .pre .0)
 
 add-result : tie.Need-add-result
-add-result c =
-    let e = ends-in (c .before .before) in search needs
+add-result c = let e = ends-in (c .before .before) in search needs
 
 sub-result : tie.Need-sub-result
 sub-result c = search needs
@@ -39,13 +36,10 @@ part-result-start : tie.Need-part-result-start
 part-result-start c = search needs
 
 part-result-end : tie.Need-part-result-end
-part-result-end c =
-    let e = ends-in (c .before .before) in search needs
+part-result-end c = let e = ends-in (c .before .before) in omega (arith, e)
 
 returns : tie.Need-returns
-returns c =
-    let S = c .before .before .before in
-    let a = S .args in part-at (a .buffer .now) (a .starts .now) (a .lens .now) (a .i) _ _ (S .pre .1) (S .pre .0) refl refl
+returns c = let a = c .before .before .before .args in part-at (a .buffer .now) (a .starts .now) (a .lens .now) (a .i) _ _ (c .before .before .before .pre .1) (c .before .before .before .pre .0) refl refl
 
 pub page-at-spec : {M : Type 1} → statement M
 page-at-spec =

@@ -1,0 +1,192 @@
+// Whether the fields of an element on the tape go together.
+ghost use mathlib.Core.Path.{_≡_};
+ghost use mathlib.Core.Bool.{true, false, _&&_};
+ghost use mathlib.Core.List.{List};
+ghost use Prim.Native.Nat.{ℕ, _+_, _*_, _≤_, _<_};
+ghost use lib.ListN.{length, getD};
+ghost use Rattle.paper.specs.Fields.{MP, fieldsOf};
+ghost use Rattle.paper.specs.Grammar.{Attr};
+ghost use Rattle.paper.specs.Judging.{slotsOf};
+ghost use Rattle.fields.specs.Places.{kindAt};
+ghost use Rattle.sheet.specs.Fold.{needsW};
+ghost use Rattle.tape.specs.Tape.{shownIn, Span, Spans, Holds};
+ghost use Rattle.quick.specs.Fits as Spec;
+use crate::value::ASIDE;
+use sheet::flaws::digits_flaw;
+
+// The numbers of elements.
+const PLAN: u8 = 1;
+
+const PERSON: u8 = 2;
+
+const AUTHOR: u8 = 3;
+
+const HEADING: u8 = 5;
+
+const MEDICATION: u8 = 6;
+
+// The number that stands for no fault.
+const NONE: u8 = 9;
+
+// Whether field `j` of the slots that begin at `base` has a value that counts.
+fn is_there(tape: &[u16], base: usize, j: usize) -> bool
+    requires { ⌜ (base + 2 * j + 1 < length (now tape)) × (length (now tape) < 65536) ⌝ }
+    ensures { λ r. ⌜ r ≡ Spec.present (now (tape .entry)) base j ⌝ }
+{
+    let s = base + 2 * j;
+    tape[s] != tape[s + 1]
+}
+
+// Whether it stands in the tag.
+fn stands(tape: &[u16], base: usize, j: usize) -> bool
+    requires { ⌜ (base + 2 * j < length (now tape)) × (length (now tape) < 65536) ⌝ }
+    ensures { λ r. ⌜ r ≡ Spec.stands (now (tape .entry)) base j ⌝ }
+{
+    tape[base + 2 * j] != 0
+}
+
+// Whether two fields stand in the tag.
+fn both(tape: &[u16], base: usize, j: usize, k: usize) -> bool
+    requires { ⌜ (base + 2 * j < length (now tape)) × (base + 2 * k < length (now tape)) × (length (now tape) < 65536) ⌝ }
+    ensures { λ r. ⌜ r ≡ Spec.both (now (tape .entry)) base j k ⌝ }
+{
+    if stands(tape, base, j) {
+        return stands(tape, base, k);
+    }
+    false
+}
+
+// The first byte of the value that the two numbers at a place of the tape tell, 0 if it is absent.
+fn first_byte(page: &[u8], side: &[u8], tape: &[u16], s: usize) -> u8
+    requires { ⌜ (s + 1 < length (now tape)) × (length (now tape) < 65536) × Span (now page) (length (now side)) (getD (now tape) s 0) (getD (now tape) (s + 1) 0) ⌝ }
+    ensures { λ r. ⌜ r ≡ getD (shownIn (now (page .entry)) (now (side .entry)) (getD (now (tape .entry)) s 0) (getD (now (tape .entry)) (s + 1) 0)) 0 0 ⌝ }
+{
+    let a = tape[s] as usize;
+    let b = tape[s + 1] as usize;
+    if a == b {
+        return 0;
+    }
+    if a < ASIDE {
+        return page[a];
+    }
+    side[a - ASIDE]
+}
+
+// Whether v and U of MP are there, and a and z are a page of so many, or neither is there.
+fn plan_fits(page: &[u8], tape: &[u16], base: usize, side: &[u8]) -> bool
+    requires { ⌜ (base + 12 ≤ length (now tape)) × (length (now tape) < 65536) × Spans (now page) (length (now side)) 6 (now tape) base ⌝ }
+    ensures { λ r. ⌜ (r ≡ true → Spec.Fits (now (page .entry)) (now (side .entry)) MP (now (tape .entry)) base) ⌝ }
+{
+    if !is_there(tape, base, 0) {
+        return false;
+    }
+    if !is_there(tape, base, 2) {
+        return false;
+    }
+    let a = first_byte(page, side, tape, base + 8);
+    let z = first_byte(page, side, tape, base + 10);
+    digits_flaw(a, z) == NONE
+}
+
+// Whether g, f and b of P are there.
+fn person_fits(tape: &[u16], base: usize) -> bool
+    requires { ⌜ (base + 16 ≤ length (now tape)) × (length (now tape) < 65536) ⌝ }
+    ensures { λ r. ⌜ r ≡ (Spec.present (now (tape .entry)) base 0 && (Spec.present (now (tape .entry)) base 1 && Spec.present (now (tape .entry)) base 2)) ⌝ }
+{
+    if is_there(tape, base, 0) {
+        if is_there(tape, base, 1) {
+            return is_there(tape, base, 2);
+        }
+        return false;
+    }
+    false
+}
+
+// Whether no two of lanr, idf and kik stand in A, and n and t are there.
+fn author_fits(tape: &[u16], base: usize) -> bool
+    requires { ⌜ (base + 20 ≤ length (now tape)) × (length (now tape) < 65536) ⌝ }
+    ensures { λ r. ⌜ (r ≡ true → (Spec.both (now (tape .entry)) base 0 1 ≡ false) × (Spec.both (now (tape .entry)) base 0 2 ≡ false) × (Spec.both (now (tape .entry)) base 1 2 ≡ false)
+        × (Spec.present (now (tape .entry)) base 3 ≡ true) × (Spec.present (now (tape .entry)) base 9 ≡ true)) ⌝ }
+{
+    if both(tape, base, 0, 1) {
+        return false;
+    }
+    if both(tape, base, 0, 2) {
+        return false;
+    }
+    if both(tape, base, 1, 2) {
+        return false;
+    }
+    if is_there(tape, base, 3) {
+        return is_there(tape, base, 9);
+    }
+    false
+}
+
+// Whether no two fields of M that exclude each other stand in it.
+fn medication_fits(tape: &[u16], base: usize) -> bool
+    requires { ⌜ (base + 28 ≤ length (now tape)) × (length (now tape) < 65536) ⌝ }
+    ensures { λ r. ⌜ (r ≡ true → (Spec.both (now (tape .entry)) base 2 3 ≡ false) × (Spec.both (now (tape .entry)) base 4 8 ≡ false) × (Spec.both (now (tape .entry)) base 5 8 ≡ false)
+        × (Spec.both (now (tape .entry)) base 6 8 ≡ false) × (Spec.both (now (tape .entry)) base 7 8 ≡ false) × (Spec.both (now (tape .entry)) base 9 10 ≡ false)) ⌝ }
+{
+    if both(tape, base, 2, 3) {
+        return false;
+    }
+    if both(tape, base, 4, 8) {
+        return false;
+    }
+    if both(tape, base, 5, 8) {
+        return false;
+    }
+    if both(tape, base, 6, 8) {
+        return false;
+    }
+    if both(tape, base, 7, 8) {
+        return false;
+    }
+    if both(tape, base, 9, 10) {
+        return false;
+    }
+    true
+}
+
+// Whether the fields of an element go together.
+pub fn tag_fits(page: &[u8], kind: u8, tape: &[u16], base: usize, side: &[u8]) -> bool
+    requires { ⌜ (kind < 10) × (base + 2 * length (fieldsOf (kindAt kind)) ≤ length (now tape)) × (length (now tape) < 65536)
+        × Spans (now page) (length (now side)) (length (fieldsOf (kindAt kind))) (now tape) base ⌝ }
+    ensures { λ r. ⌜ (r ≡ true → Spec.Fits (now (page .entry)) (now (side .entry)) (kindAt kind) (now (tape .entry)) base) ⌝ }
+{
+    if kind == PLAN {
+        return plan_fits(page, tape, base, side);
+    }
+    if kind == PERSON {
+        return person_fits(tape, base);
+    }
+    if kind == AUTHOR {
+        return author_fits(tape, base);
+    }
+    if kind == HEADING {
+        return !both(tape, base, 0, 1);
+    }
+    if kind == MEDICATION {
+        return medication_fits(tape, base);
+    }
+    if kind > MEDICATION {
+        return is_there(tape, base, 0);
+    }
+    true
+}
+
+// Whether an element is an M that has neither p nor a.
+pub fn needs_w(kind: u8, tape: &[u16], base: usize) -> bool
+    requires { ⌜ (kind < 10) × (base + 2 * length (fieldsOf (kindAt kind)) ≤ length (now tape)) × (length (now tape) < 65536) ⌝ }
+    ensures { λ r. ⌜ ((w side : List ℕ) (l : List Attr) → Holds w side (length side) (kindAt kind) (now (tape .entry)) base l → r ≡ needsW (kindAt kind) (slotsOf (fieldsOf (kindAt kind)) l)) ⌝ }
+{
+    if kind != MEDICATION {
+        return false;
+    }
+    if is_there(tape, base, 0) {
+        return false;
+    }
+    !is_there(tape, base, 1)
+}
