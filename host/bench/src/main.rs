@@ -25,19 +25,79 @@ struct Work<'a> {
     run: Box<dyn FnMut() -> usize + 'a>,
 }
 
-/// The nine pages of the first generated plan whose pages all have 1,300 to 1,400 bytes.
-fn nine_full_pages() -> (u64, Vec<Vec<u8>>) {
-    let full = |pages: &[Vec<u8>]| {
-        pages.len() == 9
-            && pages
-                .iter()
-                .all(|page| (1_300..=1_400).contains(&page.len()))
-    };
+/// The first so many generated calls whose pages pass the test, each with its seed.
+fn generated(count: usize, test: impl Fn(&[Vec<u8>]) -> bool) -> Vec<(u64, Vec<Vec<u8>>)> {
     (0..)
-        .map(|seed| (seed, case(seed)))
-        .find(|(_, case)| case.twin.is_some() && full(&case.pages))
-        .map(|(seed, case)| (seed, case.pages))
-        .expect("some seed gives such a plan")
+        .map(|seed| (seed, case(seed).pages))
+        .filter(|(_, pages)| test(pages))
+        .take(count)
+        .collect()
+}
+
+fn views(pages: &[Vec<u8>]) -> Vec<&[u8]> {
+    pages.iter().map(Vec::as_slice).collect()
+}
+
+/// Whether the pages are a plan on nine pages that all have 1,300 to 1,400 bytes.
+fn nine_full(pages: &[Vec<u8>]) -> bool {
+    let full = |page: &Vec<u8>| (1_300..=1_400).contains(&page.len());
+    pages.len() == 9 && pages.iter().all(full) && second::read(&views(pages)).is_ok()
+}
+
+/// Whether there is one page, of at least 400 bytes, and it is a plan.
+fn one_page(pages: &[Vec<u8>]) -> bool {
+    pages.len() == 1 && pages[0].len() >= 400 && second::read(&views(pages)).is_ok()
+}
+
+/// Whether there is one page, of at least 1,000 bytes, and it is refused for an element, an attribute or a value.
+fn faulty_page(pages: &[Vec<u8>]) -> bool {
+    let faulty = || second::read(&views(pages)).is_err_and(|no| (5..=8).contains(&no.number));
+    pages.len() == 1 && pages[0].len() >= 1_000 && faulty()
+}
+
+/// Further calls of which reading is measured: the words for each, its pages, and what it is measured beside.
+fn further(nine: &[Vec<u8>]) -> Vec<(String, Vec<Vec<u8>>, &'static str)> {
+    let plan = second::read(&views(nine)).expect("the pages are a plan");
+    let fresh = second::write(&plan).expect("the plan fits on nine fresh pages");
+    let mut all = vec![("the same plan on fresh pages".to_string(), fresh, "pugixml")];
+    let mut add = |words: &str, calls: Vec<(u64, Vec<Vec<u8>>)>, beside| {
+        let named = |(seed, pages)| (format!("{words} (seed {seed})"), pages, beside);
+        all.extend(calls.into_iter().map(named));
+    };
+    add(
+        "another plan",
+        generated(6, nine_full)[1..].to_vec(),
+        "pugixml",
+    );
+    add("one page", generated(3, one_page), "pugixml");
+    add("a refused page", generated(3, faulty_page), "judging it");
+    all
+}
+
+/// The quickest reading of a call, and the quickest of what it is measured beside, in seconds.
+fn beside(pages: &[Vec<u8>], beside: &str) -> (f64, f64) {
+    let call = Call::new(pages);
+    let mut rooms = border::Rooms::new();
+    let mut works = [
+        Work {
+            name: "read",
+            words: "",
+            run: Box::new(|| rooms.read(&call)),
+        },
+        Work {
+            name: "other",
+            words: "",
+            run: match beside {
+                "pugixml" => {
+                    let parse = |page: &Vec<u8>| border::peer(border::peer_pugixml, page);
+                    Box::new(move || pages.iter().map(parse).sum())
+                }
+                _ => Box::new(|| pages.iter().map(|page| border::judge(page)).sum()),
+            },
+        },
+    ];
+    let times = quickest(&mut works);
+    (times[0].as_secs_f64(), times[1].as_secs_f64())
 }
 
 fn look_up(pages: &[Vec<u8>]) -> usize {
@@ -67,7 +127,7 @@ fn lent(pages: &[&[u8]]) -> Vec<(usize, usize)> {
 
 /// Every work on these pages. Each is seen to answer rightly before it is measured.
 fn works<'a>(pages: &'a [Vec<u8>], call: &'a Call) -> Vec<Work<'a>> {
-    let views: Vec<&[u8]> = pages.iter().map(Vec::as_slice).collect();
+    let views = views(pages);
     let (again, afresh) = (views.clone(), views.clone());
     let peer = |parse: Peer| {
         move || {
@@ -210,7 +270,7 @@ fn works<'a>(pages: &'a [Vec<u8>], call: &'a Call) -> Vec<Work<'a>> {
 
 /// Whether every proved work's answer, the second program's and every peer's are what they must be, so that no refusal is measured.
 fn right(works: &mut [Work], pages: &[Vec<u8>]) -> bool {
-    let views: Vec<&[u8]> = pages.iter().map(Vec::as_slice).collect();
+    let views = views(pages);
     let plan = second::read(&views).expect("the pages are a plan");
     let (rows, lines) = (plan.rows.len(), second::listing(&plan).len());
     let index = second::index::index_of(&second::layout::lay(&plan).0.rows);
@@ -257,7 +317,7 @@ fn quickest(works: &mut [Work]) -> Vec<Duration> {
 }
 
 fn main() {
-    let (seed, pages) = nine_full_pages();
+    let (seed, pages) = generated(1, nine_full).remove(0);
     let call = Call::new(&pages);
     let mut works = works(&pages, &call);
     assert!(right(&mut works, &pages), "a work gives a wrong answer");
@@ -290,6 +350,20 @@ fn main() {
             time / seconds("look-up"),
             time / seconds("pugixml"),
             time / seconds("read"),
+        );
+    }
+    println!(
+        "\nReading other calls, each beside the bare parse of its pages, or beside judging them:\n"
+    );
+    println!("| Call | pages | bytes | a byte | to that |\n|---|---|---|---|---|");
+    for (words, pages, other) in further(&pages) {
+        let bytes: usize = pages.iter().map(Vec::len).sum();
+        let (read, time) = beside(&pages, other);
+        println!(
+            "| {words} | {} | {bytes} | {:.2} ns | {:.2} of {other} |",
+            pages.len(),
+            read * 1e9 / bytes as f64,
+            read / time,
         );
     }
 }
