@@ -30,16 +30,7 @@ use crate::sets::is_decoded;
 fn stops(b: u8) -> u8
     ensures { λ r. ⌜ (r ≡ 0 → (isDecoded b ≡ true) × (b ≡ 126 → ⊥)) ⌝ }
 {
-    if b < 32 {
-        return 1;
-    }
-    if b < 126 {
-        return 0;
-    }
-    if b < 160 {
-        return 1;
-    }
-    0
+    ((b < 32) | ((b >= 126) & (b < 160))) as u8
 }
 
 // Whether all bytes may stand in a value and none is a line break. No byte ends the look early, so that many can be taken at once.

@@ -7,6 +7,7 @@ use Prim.Native.Nat.{ℕ, zero, suc, _<_}
 use native.Mathlib.Omega.{arith}
 use lib.Bits.{bitOr, or-add-and, and-le-l, and-le-r}
 use lib.Dec.{eqb}
+use mir.Val.{boolByte}
 use borrow.Author.Tests.{eqb-true, eqb-false, eq-eqb, ne-eqb}
 use Rattle.paper.specs.Lists.{if, same, every, All}
 
@@ -32,6 +33,11 @@ no-not false e = refl
 -- two numbers are 0 where their bits together are
 pub both-zero : (a b : ℕ) → bitOr a b ≡ 0 → (a ≡ 0) × (b ≡ 0)
 both-zero a b e = (omega (arith, e, or-add-and a b, and-le-r a b), omega (arith, e, or-add-and a b, and-le-l a b))
+
+-- a test whose number is 0 fails
+pub no-flag : (a : Bool) → boolByte a ≡ 0 → a ≡ false
+no-flag true e = unequal (sym e)
+no-flag false e = refl
 
 pub if-same : {A : Type 0} (b : Bool) (x : A) → if b x x ≡ x
 if-same true x = refl
