@@ -15,7 +15,7 @@ use Rattle.paper.specs.Lists.{same, every}
 use Rattle.paper.specs.Fields.{Kind, unknown, MP, P, A, O, S, M, W, R, X, code, Field, table, fieldsOf, tagName, excluded}
 use Rattle.paper.proofs.Small.{both, below-at, same-eq}
 use Rattle.fields.specs.Places.{kindAt, ruleNumber, noField, fieldAt, firstOf, countOf, under, onesOf, othersOf, keyOf}
-use Rattle.fields.specs.Columns.{bit, keyColumn, ruleColumn, leastColumn, mostColumn, tildeColumn, mustColumn, firstColumn, countColumn, childKeyColumn, childKindColumn, childFirstColumn, childCountColumn, oneColumn, otherColumn, pairFirstColumn, pairCountColumn}
+use Rattle.fields.specs.Columns.{bit, packed, entryOf, keyColumn, ruleColumn, leastColumn, mostColumn, tildeColumn, mustColumn, firstColumn, countColumn, childKeyColumn, childKindColumn, childFirstColumn, childCountColumn, oneColumn, otherColumn, pairFirstColumn, pairCountColumn}
 
 -- ---- a field's columns
 
@@ -73,46 +73,56 @@ bit-one false = refl
 -- ---- an element's columns
 
 -- the place of an element's first field
-pub first-at : (e : ℕ) → e < 10 → getD firstColumn e 0 ≡ firstOf (kindAt e)
+pub first-at : (e : ℕ) → e < 10 → entryOf (packed firstColumn) e ≡ firstOf (kindAt e)
 unfolding firstColumn firstOf kindAt
-first-at e h = eqb-true (getD firstColumn e 0) (firstOf (kindAt e)) (below-at 10 (λ (n : ℕ). eqb (getD firstColumn n 0) (firstOf (kindAt n))) refl e h)
+first-at e h = eqb-true (entryOf (packed firstColumn) e) (firstOf (kindAt e)) (below-at 10 (λ (n : ℕ). eqb (entryOf (packed firstColumn) n) (firstOf (kindAt n))) refl e h)
 
 -- how many fields an element has
-pub count-at : (e : ℕ) → e < 10 → getD countColumn e 0 ≡ countOf (kindAt e)
+pub count-at : (e : ℕ) → e < 10 → entryOf (packed countColumn) e ≡ countOf (kindAt e)
 unfolding countColumn countOf kindAt fieldsOf
-count-at e h = eqb-true (getD countColumn e 0) (countOf (kindAt e)) (below-at 10 (λ (n : ℕ). eqb (getD countColumn n 0) (countOf (kindAt n))) refl e h)
+count-at e h = eqb-true (entryOf (packed countColumn) e) (countOf (kindAt e)) (below-at 10 (λ (n : ℕ). eqb (entryOf (packed countColumn) n) (countOf (kindAt n))) refl e h)
 
 -- how many excluded pairs an element has
-pub pairs-at : (e : ℕ) → e < 10 → getD pairCountColumn e 0 ≡ length (excluded (kindAt e))
+pub pairs-at : (e : ℕ) → e < 10 → entryOf (packed pairCountColumn) e ≡ length (excluded (kindAt e))
 unfolding pairCountColumn kindAt
 pairs-at e h =
-    eqb-true (getD pairCountColumn e 0) (length (excluded (kindAt e))) (below-at 10 (λ (n : ℕ). eqb (getD pairCountColumn n 0) (length (excluded (kindAt n)))) refl e h)
+    eqb-true (entryOf (packed pairCountColumn) e) (length (excluded (kindAt e))) (below-at 10 (λ (n : ℕ). eqb (entryOf (packed pairCountColumn) n) (length (excluded (kindAt n)))) refl e h)
 
 -- ---- excluded pairs
 
 -- the pairs of an element stand within the columns
-pub pairs-within : (e : ℕ) → e < 10 → getD pairFirstColumn e 0 + length (excluded (kindAt e)) ≤ 10
+pub pairs-within : (e : ℕ) → e < 10 → entryOf (packed pairFirstColumn) e + length (excluded (kindAt e)) ≤ 10
 unfolding pairFirstColumn onesOf kindAt fieldsOf
-pairs-within e h = leb-true (getD pairFirstColumn e 0 + length (excluded (kindAt e))) 10
-    (below-at 10 (λ (n : ℕ). leb (getD pairFirstColumn n 0 + length (excluded (kindAt n))) 10) refl e h)
+pairs-within e h = leb-true (entryOf (packed pairFirstColumn) e + length (excluded (kindAt e))) 10
+    (below-at 10 (λ (n : ℕ). leb (entryOf (packed pairFirstColumn) n + length (excluded (kindAt n))) 10) refl e h)
 
 -- an entry of a part of a column
 entry : (l m : List ℕ) (a c i : ℕ) → take c (drop a l) ≡ m → i < c → getD l (a + i) 0 ≡ getD m i 0
 entry l m a c i e h = sym (getD-drop a l i 0) ∙ sym (getD-take c (drop a l) i 0 h) ∙ ap (λ (s : List ℕ). getD s i 0) e
 
+-- the entries of the packed ones are the column's
+one-entry : (p : ℕ) → p < 10 → entryOf (packed oneColumn) p ≡ getD oneColumn p 0
+unfolding oneColumn onesOf fieldsOf
+one-entry p h = eqb-true (entryOf (packed oneColumn) p) (getD oneColumn p 0) (below-at 10 (λ (n : ℕ). eqb (entryOf (packed oneColumn) n) (getD oneColumn n 0)) refl p h)
+
 -- the one of an element's pair
-pub one-at : (e i : ℕ) → e < 10 → i < length (excluded (kindAt e)) → getD oneColumn (getD pairFirstColumn e 0 + i) 0 ≡ getD (onesOf (kindAt e)) i 0
+pub one-at : (e i : ℕ) → e < 10 → i < length (excluded (kindAt e)) → entryOf (packed oneColumn) (entryOf (packed pairFirstColumn) e + i) ≡ getD (onesOf (kindAt e)) i 0
 unfolding oneColumn pairFirstColumn onesOf kindAt fieldsOf
-one-at e i h l = entry oneColumn (onesOf (kindAt e)) (getD pairFirstColumn e 0) (length (excluded (kindAt e))) i
-    (same-eq (take (length (excluded (kindAt e))) (drop (getD pairFirstColumn e 0) oneColumn)) (onesOf (kindAt e))
-    (below-at 10 (λ (n : ℕ). same (take (length (excluded (kindAt n))) (drop (getD pairFirstColumn n 0) oneColumn)) (onesOf (kindAt n))) refl e h)) l
+one-at e i h l = let within = pairs-within e h in one-entry (entryOf (packed pairFirstColumn) e + i) (omega arith) ∙ entry oneColumn (onesOf (kindAt e)) (entryOf (packed pairFirstColumn) e) (length (excluded (kindAt e))) i
+    (same-eq (take (length (excluded (kindAt e))) (drop (entryOf (packed pairFirstColumn) e) oneColumn)) (onesOf (kindAt e))
+    (below-at 10 (λ (n : ℕ). same (take (length (excluded (kindAt n))) (drop (entryOf (packed pairFirstColumn) n) oneColumn)) (onesOf (kindAt n))) refl e h)) l
+
+-- the entries of the packed others are the column's
+other-entry : (p : ℕ) → p < 10 → entryOf (packed otherColumn) p ≡ getD otherColumn p 0
+unfolding otherColumn onesOf othersOf fieldsOf
+other-entry p h = eqb-true (entryOf (packed otherColumn) p) (getD otherColumn p 0) (below-at 10 (λ (n : ℕ). eqb (entryOf (packed otherColumn) n) (getD otherColumn n 0)) refl p h)
 
 -- the other of an element's pair
-pub other-at : (e i : ℕ) → e < 10 → i < length (excluded (kindAt e)) → getD otherColumn (getD pairFirstColumn e 0 + i) 0 ≡ getD (othersOf (kindAt e)) i 0
+pub other-at : (e i : ℕ) → e < 10 → i < length (excluded (kindAt e)) → entryOf (packed otherColumn) (entryOf (packed pairFirstColumn) e + i) ≡ getD (othersOf (kindAt e)) i 0
 unfolding otherColumn pairFirstColumn onesOf othersOf kindAt fieldsOf
-other-at e i h l = entry otherColumn (othersOf (kindAt e)) (getD pairFirstColumn e 0) (length (excluded (kindAt e))) i
-    (same-eq (take (length (excluded (kindAt e))) (drop (getD pairFirstColumn e 0) otherColumn)) (othersOf (kindAt e))
-    (below-at 10 (λ (n : ℕ). same (take (length (excluded (kindAt n))) (drop (getD pairFirstColumn n 0) otherColumn)) (othersOf (kindAt n))) refl e h)) l
+other-at e i h l = let within = pairs-within e h in other-entry (entryOf (packed pairFirstColumn) e + i) (omega arith) ∙ entry otherColumn (othersOf (kindAt e)) (entryOf (packed pairFirstColumn) e) (length (excluded (kindAt e))) i
+    (same-eq (take (length (excluded (kindAt e))) (drop (entryOf (packed pairFirstColumn) e) otherColumn)) (othersOf (kindAt e))
+    (below-at 10 (λ (n : ℕ). same (take (length (excluded (kindAt n))) (drop (entryOf (packed pairFirstColumn) n) otherColumn)) (othersOf (kindAt n))) refl e h)) l
 
 -- ---- an element's part of the columns
 

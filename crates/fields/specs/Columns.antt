@@ -3,7 +3,7 @@
 -- Assumes nothing.
 use mathlib.Core.Bool.{Bool, true, false, not}
 use mathlib.Core.List.{List, [], _∷_, map}
-use Prim.Native.Nat.{ℕ}
+use Prim.Native.Nat.{ℕ, _+_, _*_, _^_, _/_, _%_}
 use lib.Dec.{eqb}
 use lib.ListN.{length, take}
 use Rattle.paper.specs.Lists.{concat}
@@ -86,6 +86,15 @@ pairFirstColumn = map (λ (n : ℕ). length (concat (map onesOf (take n kinds)))
 -- how many pairs each element has
 unfoldable pub pairCountColumn : List ℕ
 pairCountColumn = map (λ (k : Kind). length (excluded k)) kinds
+
+-- a column of small numbers as one number, six bits to each
+abbrev pub packed : List ℕ → ℕ
+packed [] = 0
+packed (x ∷ l) = x + 64 * packed l
+
+-- the number at a place of a packed column
+abbrev pub entryOf : ℕ → ℕ → ℕ
+entryOf column i = column / 2 ^ (6 * i) % 64
 
 -- another key than this
 abbrev pub other : ℕ → ℕ → Bool

@@ -5,7 +5,7 @@ ghost use lib.ListN.{length, take, drop, getD};
 ghost use Rattle.paper.specs.Lists.{until};
 ghost use Rattle.paper.specs.Fields.{code, named, fieldsOf, excluded};
 ghost use Rattle.fields.specs.Places.{kindAt, ruleNumber, fieldAt, placeIn, firstOf, countOf, under, onesOf, othersOf, keyOf, keyOrNone};
-ghost use Rattle.fields.specs.Columns.{other, keyColumn, ruleColumn, leastColumn, mostColumn, tildeColumn, mustColumn};
+ghost use Rattle.fields.specs.Columns.{other, entryOf, keyColumn, ruleColumn, leastColumn, mostColumn, tildeColumn, mustColumn};
 use crate::table::CHILD_COUNTS;
 use crate::table::CHILD_FIRSTS;
 use crate::table::CHILD_KEYS;
@@ -81,12 +81,20 @@ pub fn rule_of(id: usize) -> u8
     RULES[id]
 }
 
+// The number at a place of a packed column.
+fn entry(column: u64, i: usize) -> usize
+    requires { ⌜ i < 10 ⌝ }
+    ensures { λ r. ⌜ r ≡ entryOf column i ⌝ }
+{
+    ((column >> (6 * i as u64)) % 64) as usize
+}
+
 // The place of an element's first field in the table.
 pub fn first_of(element: u8) -> usize
     requires { ⌜ element < 10 ⌝ }
     ensures { λ r. ⌜ r ≡ firstOf (kindAt element) ⌝ }
 {
-    FIRSTS[element as usize] as usize
+    entry(FIRSTS, element as usize)
 }
 
 // How many fields an element has.
@@ -94,7 +102,7 @@ pub fn count_of(element: u8) -> usize
     requires { ⌜ element < 10 ⌝ }
     ensures { λ r. ⌜ (r ≡ countOf (kindAt element)) × (firstOf (kindAt element) + r ≤ 52) ⌝ }
 {
-    COUNTS[element as usize] as usize
+    entry(COUNTS, element as usize)
 }
 
 // How many pairs of fields of an element exclude each other.
@@ -102,7 +110,7 @@ pub fn pairs_of(element: u8) -> usize
     requires { ⌜ element < 10 ⌝ }
     ensures { λ r. ⌜ r ≡ length (excluded (kindAt element)) ⌝ }
 {
-    PAIR_COUNTS[element as usize] as usize
+    entry(PAIR_COUNTS, element as usize)
 }
 
 // The place of the one field of such a pair among its element's fields.
@@ -110,7 +118,8 @@ pub fn pair_one(element: u8, i: usize) -> usize
     requires { ⌜ (element < 10) × (i < length (excluded (kindAt element))) ⌝ }
     ensures { λ r. ⌜ r ≡ getD (onesOf (kindAt element)) i 0 ⌝ }
 {
-    PAIR_ONES[PAIR_FIRSTS[element as usize] as usize + i] as usize
+    let first = entry(PAIR_FIRSTS, element as usize);
+    entry(PAIR_ONES, first + i)
 }
 
 // The place of the other field of such a pair.
@@ -118,7 +127,8 @@ pub fn pair_other(element: u8, i: usize) -> usize
     requires { ⌜ (element < 10) × (i < length (excluded (kindAt element))) ⌝ }
     ensures { λ r. ⌜ r ≡ getD (othersOf (kindAt element)) i 0 ⌝ }
 {
-    PAIR_OTHERS[PAIR_FIRSTS[element as usize] as usize + i] as usize
+    let first = entry(PAIR_FIRSTS, element as usize);
+    entry(PAIR_OTHERS, first + i)
 }
 
 // The key of a name; 0 for one of more than seven bytes, which no element and no field has.

@@ -336,34 +336,6 @@ pub const MUSTS: [u8; 52] = [
     1, // X.t
 ];
 
-// The place of each element's first field, by the element's number; one past the table for an element without fields.
-pub const FIRSTS: [u8; 10] = [
-    52, // unknown
-    0, // MP
-    6, // P
-    14, // A
-    24, // O
-    31, // S
-    33, // M
-    47, // W
-    49, // R
-    51, // X
-];
-
-// How many fields each element has.
-pub const COUNTS: [u8; 10] = [
-    0, // unknown
-    6, // MP
-    8, // P
-    10, // A
-    7, // O
-    2, // S
-    14, // M
-    2, // W
-    2, // R
-    1, // X
-];
-
 // The names of elements as keys, by the parent that may hold them.
 pub const CHILD_KEYS: [u64; 9] = [
     336, // P in MP
@@ -420,58 +392,26 @@ pub const CHILD_COUNTS: [u8; 11] = [
     1, // outside
 ];
 
-// Of each two fields that exclude each other, the place of the one among its element's fields.
-pub const PAIR_ONES: [u8; 10] = [
-    0, // A: lanr or idf
-    0, // A: lanr or kik
-    1, // A: idf or kik
-    0, // S: c or t
-    2, // M: f or fd
-    4, // M: m or t
-    5, // M: d or t
-    6, // M: v or t
-    7, // M: h or t
-    9, // M: du or dud
-];
+// The place of each element's first field, by the element's number; one past the table for an element without fields. Six bits to each, the first lowest:
+// 52 0 6 14 24 31 33 47 49 51.
+pub const FIRSTS: u64 = 932735607463501876;
 
-// Of each two fields that exclude each other, the place of the other.
-pub const PAIR_OTHERS: [u8; 10] = [
-    1, // A: lanr or idf
-    2, // A: lanr or kik
-    2, // A: idf or kik
-    1, // S: c or t
-    3, // M: f or fd
-    8, // M: m or t
-    8, // M: d or t
-    8, // M: v or t
-    8, // M: h or t
-    10, // M: du or dud
-];
+// How many fields each element has. Six bits to each, the first lowest:
+// 0 6 8 10 7 2 14 2 2 1.
+pub const COUNTS: u64 = 18587108896178560;
 
-// The place of each element's first excluded pair.
-pub const PAIR_FIRSTS: [u8; 10] = [
-    0, // unknown
-    0, // MP
-    0, // P
-    0, // A
-    3, // O
-    3, // S
-    4, // M
-    10, // W
-    10, // R
-    10, // X
-];
+// Of each two fields that exclude each other, the place of the one among its element's fields. Six bits to each, the first lowest:
+// 0 0 1 0 2 4 5 6 7 9.
+pub const PAIR_ONES: u64 = 164126647627288576;
 
-// How many excluded pairs each element has.
-pub const PAIR_COUNTS: [u8; 10] = [
-    0, // unknown
-    0, // MP
-    0, // P
-    3, // A
-    0, // O
-    1, // S
-    6, // M
-    0, // W
-    0, // R
-    0, // X
-];
+// Of each two fields that exclude each other, the place of the other. Six bits to each, the first lowest:
+// 1 2 2 1 3 8 8 8 8 10.
+pub const PAIR_OTHERS: u64 = 182431527676944513;
+
+// The place of each element's first excluded pair. Six bits to each, the first lowest:
+// 0 0 0 0 3 3 4 10 10 10.
+pub const PAIR_FIRSTS: u64 = 183002993476501504;
+
+// How many excluded pairs each element has. Six bits to each, the first lowest:
+// 0 0 0 3 0 1 6 0 0 0.
+pub const PAIR_COUNTS: u64 = 413391388672;

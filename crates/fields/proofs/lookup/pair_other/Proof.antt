@@ -1,41 +1,35 @@
 -- `fields::lookup::pair_other` meets its contract: the element's part of the pairs.
 -- Assumes nothing.
-use mathlib.Core.Path.{refl}
-use Prim.Native.Nat.{_+_, _-_}
+use mathlib.Core.Path.{ap, _∙_}
+use Prim.Native.Nat.{ℕ, _+_}
 use native.Mathlib.Omega.{arith}
-use lib.ListN.{getD}
 use borrow.Author.Needs.{needs}
 use Rattle.paper.specs.Fields.{fieldsOf}
 use Rattle.fields.specs.Places.{onesOf, othersOf}
-use Rattle.fields.specs.Columns.{otherColumn, pairFirstColumn}
-use Rattle.fields.proofs.ColumnLaws.{fits-entry, pairs-within, other-at}
+use Rattle.fields.specs.Columns.{packed, entryOf, otherColumn, pairFirstColumn}
+use Rattle.fields.proofs.ColumnLaws.{pairs-within, other-at}
 use Rattle.fields.proofs.lookup.pair_other.Statement.{statement}
 use Rattle.fields.proofs.lookup.pair_other.Tie as tie
 
-array-read-result : tie.Need-array-read-result
-array-read-result c = search needs
+entry-requires : tie.Need-entry-requires
+entry-requires c κs = search needs
 
-cast-result : tie.Need-cast-result
-unfolding otherColumn pairFirstColumn onesOf othersOf fieldsOf
-cast-result c = fits-entry pairFirstColumn (c .args .element) refl
-
-add-result : tie.Need-add-result
+add-entry : tie.Need-add-entry
 unfolding pairFirstColumn onesOf fieldsOf
-add-result c = let within = pairs-within (c .args .element) (c .pre .0) in omega arith
+add-entry c = let B = c .before in let within = pairs-within (B .args .element) (B .pre .0) in omega (arith, c .entry .ensures)
 
-array-read-result-2 : tie.Need-array-read-result-2
+entry-requires-2 : tie.Need-entry-requires-2
 unfolding pairFirstColumn onesOf fieldsOf
-array-read-result-2 c = let within = pairs-within (c .args .element) (c .pre .0) in omega arith
-
-cast-result-2 : tie.Need-cast-result-2
-unfolding otherColumn pairFirstColumn onesOf othersOf fieldsOf
-cast-result-2 c = fits-entry otherColumn (getD pairFirstColumn (c .args .element) 0 + c .args .i) refl
+entry-requires-2 c κs = let B = c .before in let within = pairs-within (B .args .element) (B .pre .0) in omega (arith, c .entry .ensures)
 
 returns : tie.Need-returns
 unfolding otherColumn pairFirstColumn onesOf othersOf fieldsOf
-returns c = other-at (c .args .element) (c .args .i) (c .pre .0) (c .pre .1)
+returns c =
+    let E = c .before in
+    let B = E .before in
+    c .entry2 .ensures
+    ∙ ap (λ (f : ℕ). entryOf (packed otherColumn) (f + B .args .i)) (E .entry .ensures)
+    ∙ other-at (B .args .element) (B .args .i) (B .pre .0) (B .pre .1)
 
 pub pair-other-spec : {M : Type 1} → statement M
-pair-other-spec =
-    tie.close
-    (tie.spec array-read-result cast-result add-result array-read-result-2 cast-result-2 returns)
+pair-other-spec = tie.close (tie.spec entry-requires add-entry entry-requires-2 returns)
