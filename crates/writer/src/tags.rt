@@ -26,16 +26,7 @@ use plan::Span;
 fn grows(b: u8) -> u8
     ensures { λ r. ⌜ (r ≡ 0 → esc b ≡ b ∷ []) ⌝ }
 {
-    if b == 34 {
-        return 1;
-    }
-    if b == 38 {
-        return 1;
-    }
-    if b == 60 {
-        return 1;
-    }
-    0
+    ((b == 34) | (b == 38) | (b == 60)) as u8
 }
 
 // Whether the value from `from` up to `to` is spelled as it is. No byte ends the look early, so that many can be taken at once.

@@ -1,21 +1,21 @@
 -- `writer::tags::grows` meets its contract: a byte that is none of the three is spelled as it is.
 -- Assumes nothing.
-use native.Mathlib.Omega.{arith}
-use borrow.Author.Tests.{ne-eqb}
+use mathlib.Core.Bool.{_||_}
+use lib.Dec.{eqb}
+use borrow.Author.Needs.{needs}
+use Rattle.paper.proofs.Small.{neither, no-flag}
 use Rattle.writer.proofs.tags.grows.Statement.{statement}
 use Rattle.writer.proofs.tags.grows.Tie as tie
 
+cast-result : tie.Need-cast-result
+cast-result c = search needs
+
 returns : tie.Need-returns
-returns c = λ e. absurd (omega (arith, e))
-
-returns-2 : tie.Need-returns-2
-returns-2 c = λ e. absurd (omega (arith, e))
-
-returns-3 : tie.Need-returns-3
-returns-3 c = λ e. absurd (omega (arith, e))
-
-returns-4 : tie.Need-returns-4
-returns-4 c = λ e. rw (ne-eqb _ 38 (c .before .if2 .left), ne-eqb _ 60 (c .if3 .left), ne-eqb _ 34 (c .before .before .if1 .left))
+returns c = λ e.
+    let b = c .args .b in
+    let (two, x) = neither (eqb b 34 || eqb b 38) (eqb b 60) (no-flag _ e) in
+    let (v, w) = neither (eqb b 34) (eqb b 38) two in
+    rw (w, x, v)
 
 pub grows-spec : {M : Type 1} → statement M
-grows-spec = tie.close (tie.spec returns returns-2 returns-3 returns-4)
+grows-spec = tie.close (tie.spec cast-result returns)
