@@ -11,4 +11,5 @@ pub mod Answered
 pub mod WrittenBack
 pub mod Bodied
 pub mod Paged
+pub mod Placed
 pub mod Spelled

@@ -8,7 +8,7 @@ use native.Mathlib.Numerals.{add-one}
 use native.Mathlib.Omega.{arith}
 use lib.Dec.{leb}
 use lib.ListN.{length, take, drop, getD, set, replicate, length-append, length-set, drop-of-length-le}
-use lib.Seq.{take-suc-set}
+use lib.Seq.{take-suc-set, take-at, length-take-le}
 use borrow.Author.Tests.{leb-true}
 use Rattle.paper.specs.Lists.{if, every}
 use Rattle.paper.specs.Fields.{Kind, MP, P, A, O, S, M, W, R, X, is, Field, fieldsOf, tagName}
@@ -26,8 +26,12 @@ use Rattle.plan.specs.Numbers.{recordAt, showRow, showRows, kindShown}
 use Rattle.plan.specs.Records.{paperKind, codeKind}
 use Rattle.plan.proofs.Shown.{rows-shown, row-next}
 use Rattle.plan.proofs.Parts.{kind-is}
-use Rattle.writer.specs.Spelling.{rowText}
-use Rattle.writer.specs.Cutting.{measureOf}
+use Rattle.markup.specs.Laid.{laid}
+use Rattle.writer.specs.Spelling.{rowText, peopleText}
+use Rattle.writer.specs.Tags.{gapText, placedText, rowsPlaced, Stays}
+use Rattle.writer.specs.Cutting.{measureOf, sizeIn}
+use Rattle.writer.proofs.Placed.{placed-append, placed-size}
+use Rattle.writer.proofs.Stretches.{rows-split}
 
 -- ---- values and elements
 
@@ -122,55 +126,117 @@ page-short h e =
       measures-short (h .measures) z (H .measures-ok),
     )
 
+-- P, A and O of a sound head
+pub people-short : (h : Head) → soundHead h ≡ true → length (peopleText h) ≤ 8192
+people-short h e =
+    let H = head-sound h e in
+    let o : List ℕ = measuresText (h .measures) [] in
+    let a : List ℕ = bare A (h .author) o in
+    omega (
+      arith,
+      bare-long P (h .person) a,
+      spelled-short P 1100 (h .person) (bounds .person) (H .person-ok),
+      bare-long A (h .author) o,
+      spelled-short A 1400 (h .author) (bounds .author) (H .author-ok),
+      measures-short (h .measures) [] (H .measures-ok),
+    )
+
 -- ---- the numbers of the rows
 
+-- a sound row and what stands before it
+pub placed-short : (r : Row) → soundRow r ≡ true → length (placedText true r) ≤ 8196
+unfolding placedText
+placed-short r e = omega (arith, length-append (gapText true (heading r)) (rowText r), row-short r e, at (heading r))
+  where
+    at : (b : Bool) → length (gapText true b) ≤ 4
+    at true = omega arith
+    at false = omega arith
+
 -- a heading's number
-pub heading-number : (r : Row) (n : ℕ) → heading r ≡ true → n ≡ 0 + length (rowText r) → (n + 4) * 2 + 1 ≡ measureOf r
-heading-number r n e q = rw e (omega arith)
+pub heading-number : (r : Row) (n : ℕ) → heading r ≡ true → n ≡ length (placedText true r) → n * 2 + 1 ≡ measureOf r
+unfolding placedText
+heading-number r n e q = let l : n ≡ 4 + length (rowText r) = q ∙ rw e (omega arith) in rw e (omega arith)
 
 -- any other row's number
-pub other-number : (r : Row) (n : ℕ) → heading r ≡ false → n ≡ 0 + length (rowText r) → n * 2 ≡ measureOf r
-other-number r n e q = rw e (omega arith)
+pub other-number : (r : Row) (n : ℕ) → heading r ≡ false → n ≡ length (placedText true r) → n * 2 ≡ measureOf r
+unfolding placedText
+other-number r n e q = let l : n ≡ length (rowText r) = q ∙ rw e in rw e (omega arith)
 
 -- the kind of a record tells whether its row is a heading
 pub heading-told : (t l : List ℕ) → is (paperKind (codeKind (kindShown (getD l 0 0)))) S ≡ heading (showRow t l)
 unfolding showRow
 heading-told t l = ap (λ (k : Kind). is k S) (sym (kind-is (getD l 0 0)))
 
--- i rows are measured, and their numbers stand in ms
-pub record Measured (t rows : List ℕ) (n : ℕ) (s₀ s ms : List ℕ) (i : ℕ) : Type 0 where
+-- the first j rows, one behind the other
+abbrev pub placedUpTo : List ℕ → List ℕ → ℕ → List ℕ
+placedUpTo t rows j = rowsPlaced (showRows t j rows)
+
+next-placed : (t rows : List ℕ) (i : ℕ) → placedUpTo t rows (i + 1) ≡ placedUpTo t rows i ++ placedText true (showRow t (recordAt rows i))
+unfolding rowsPlaced
+next-placed t rows i =
+    ap rowsPlaced (rows-split t i 1 (i + 1) rows refl)
+    ∙ placed-append (showRows t i rows) (showRow t (recordAt rows i) ∷ [])
+    ∙ ap (λ (w : List ℕ). placedUpTo t rows i ++ w) (append-nil (placedText true (showRow t (recordAt rows i))))
+
+-- bytes laid behind the beginning of a room
+laid-behind : (s w : List ℕ) (at : ℕ) → at ≤ length s → take (at + length w) (laid s at w) ≡ take at s ++ w
+laid-behind s w at h =
+    let l = length-take-le at s h in
+    ap (take (at + length w)) (sym (append-assoc (take at s) w (drop (at + length w) s)))
+    ∙ take-at (take at s ++ w) (drop (at + length w) s) (at + length w) (omega (arith, l, length-append (take at s) w))
+
+-- i rows are measured, and their numbers stand in ms; as long as nine pages take them, they stand in the scratch room up to place `at`
+pub record Measured (t rows : List ℕ) (n : ℕ) (s₀ s ms : List ℕ) (at i : ℕ) : Type 0 where
   pub within : i ≤ n
   pub few : n ≤ 256
   pub scratch : length s ≡ length s₀
-  pub room : 8192 ≤ length s₀
+  pub room : 20800 ≤ length s₀
+  pub low : at ≤ 12600
   pub long : length ms ≡ 256
   pub right : take i ms ++ map measureOf (drop i (showRows t n rows)) ≡ map measureOf (showRows t n rows)
+  pub stays : length (placedUpTo t rows i) ≤ 12600 → (at ≡ length (placedUpTo t rows i)) × (take at s ≡ placedUpTo t rows i)
 
 -- none is measured
-pub measured-start : (t rows : List ℕ) (n : ℕ) (s : List ℕ) → n ≤ 256 → 8192 ≤ length s → Measured t rows n s s (replicate 256 0) 0
-measured-start t rows n s f r = record { within = omega arith; few = f; scratch = refl; room = r; long = refl; right = refl }
+pub measured-start : (t rows : List ℕ) (n : ℕ) (s : List ℕ) → n ≤ 256 → 20800 ≤ length s → Measured t rows n s s (replicate 256 0) 0 0
+unfolding rowsPlaced
+measured-start t rows n s f r = record { within = omega arith; few = f; scratch = refl; room = r; low = omega arith; long = refl; right = refl; stays = λ l. (refl, refl) }
 
 -- the next one is measured
-pub measured-next : {t rows : List ℕ} {n : ℕ} {s₀ s ms : List ℕ} {i : ℕ} (s′ : List ℕ) (m : ℕ) → Measured t rows n s₀ s ms i → i < n → length s′ ≡ length s → m ≡ measureOf (showRow t (recordAt rows i))
-    → Measured t rows n s₀ s′ (set ms i m) (i + 1)
-measured-next {t} {rows} {n} {s₀} {s} {ms} {i} s′ m H h k e =
+pub measured-next : {t rows : List ℕ} {n : ℕ} {s₀ s ms : List ℕ} {at i : ℕ} (s′ : List ℕ) (m at′ : ℕ) → Measured t rows n s₀ s ms at i → i < n → m ≡ measureOf (showRow t (recordAt rows i))
+    → s′ ≡ laid s at (placedText true (showRow t (recordAt rows i))) → length s′ ≡ length s → at′ ≤ 12600 → (at + sizeIn m ≤ 12600 → at′ ≡ at + sizeIn m)
+    → Measured t rows n s₀ s′ (set ms i m) at′ (i + 1)
+measured-next {t} {rows} {n} {s₀} {s} {ms} {at} {i} s′ m at′ H h e b k low go =
     let few = H .few in
     let long = H .long in
+    let w : List ℕ = placedText true (showRow t (recordAt rows i)) in
     let rest : List ℕ = map measureOf (drop (i + 1) (showRows t n rows)) in
     let next : map measureOf (drop i (showRows t n rows)) ≡ measureOf (showRow t (recordAt rows i)) ∷ rest = ap (map measureOf) (row-next t n rows i h) in
     let more : take (i + 1) (set ms i m) ≡ take i ms ++ m ∷ [] = rw (add-one i) (take-suc-set ms i m (omega arith)) in
+    let size : sizeIn m ≡ length w = ap sizeIn e ∙ placed-size (showRow t (recordAt rows i)) in
+    let put = next-placed t rows i in
+    let grown : length (placedUpTo t rows (i + 1)) ≡ length (placedUpTo t rows i) + length w = ap length put ∙ length-append (placedUpTo t rows i) w in
     record {
       within = omega arith;
       few = few;
       scratch = k ∙ H .scratch;
       room = H .room;
+      low = low;
       long = length-set ms i m ∙ long;
       right = ap (λ (x : List ℕ). x ++ rest) more ∙ append-assoc (take i ms) (m ∷ []) rest ∙ ap (λ (x : ℕ). take i ms ++ x ∷ rest) e ∙ ap (λ (x : List ℕ). take i ms ++ x) (sym next) ∙ H .right;
+      stays = λ l.
+          let (p, q) = H .stays (omega (arith, l, grown)) in
+          let to : at′ ≡ at + length w = go (omega (arith, l, grown, p, size)) ∙ ap (λ (x : ℕ). at + x) size in (
+            omega (arith, to, p, grown),
+            ap (λ (x : ℕ). take x s′) to ∙ ap (take (at + length w)) b ∙ laid-behind s w at (omega (arith, H .low, H .room, H .scratch)) ∙ ap (λ (x : List ℕ). x ++ w) q ∙ sym put,
+          );
     }
 
 -- all are measured
-pub measured-all : {t rows : List ℕ} {n : ℕ} {s₀ s ms : List ℕ} {i : ℕ} → Measured t rows n s₀ s ms i → n ≤ i → take n ms ≡ map measureOf (showRows t n rows)
-measured-all {t} {rows} {n} {s₀} {s} {ms} {i} H h =
+pub measured-all : {t rows : List ℕ} {n : ℕ} {s₀ s ms : List ℕ} {at i : ℕ} → Measured t rows n s₀ s ms at i → n ≤ i
+    → (take n ms ≡ map measureOf (showRows t n rows)) × Stays s (rowsPlaced (showRows t n rows))
+measured-all {t} {rows} {n} {s₀} {s} {ms} {at} {i} H h =
     let e : n ≡ i = omega (arith, H .within) in
-    let gone : drop i (showRows t n rows) ≡ [] = drop-of-length-le (showRows t n rows) {i = i} (omega (arith, rows-shown t n rows)) in
-    ap (λ (k : ℕ). take k ms) e ∙ sym (append-nil (take i ms)) ∙ ap (λ (x : List Row). take i ms ++ map measureOf x) (sym gone) ∙ H .right
+    let gone : drop i (showRows t n rows) ≡ [] = drop-of-length-le (showRows t n rows) {i = i} (omega (arith, rows-shown t n rows)) in (
+      ap (λ (k : ℕ). take k ms) e ∙ sym (append-nil (take i ms)) ∙ ap (λ (x : List Row). take i ms ++ map measureOf x) (sym gone) ∙ H .right,
+      rw e (λ l. let (p, q) = H .stays l in ap (λ (k : ℕ). take k s) (sym p) ∙ q),
+    )

@@ -16,8 +16,10 @@ use Rattle.markup.specs.Laid.{laid}
 use Rattle.listing.specs.Written.{Wrote}
 use Rattle.listing.proofs.Pieces.{Going, going-start, going-fits, going-on, going-done, fits-whole}
 use Rattle.writer.specs.Spelling.{rowsBetween}
+use Rattle.writer.specs.Tags.{rowsPlaced}
 use Rattle.writer.specs.Cutting.{Rising, parted}
 use Rattle.writer.proofs.CutLaws.{offsets}
+use Rattle.writer.proofs.Placed.{stretch-end}
 use Rattle.writer.proofs.Stretches.{rows-split}
 
 -- ---- the rows of each page
@@ -68,8 +70,9 @@ module _ (h : Head) (t rows ends : List ℕ) (n z : ℕ) where
   abbrev pub left : ℕ → ℕ → List (List ℕ)
   left k from = pages h z (suc k) (parted t rows from (drop k (take z ends)))
 
-  -- k pages are laid, and end at place `at`; the rows up to `from` stand on them
-  pub record Laid (out₀ out lens : List ℕ) (at from k : ℕ) : Type 0 where
+  -- k pages are laid, and end at place `at`; the rows up to `from` stand on them, and those behind them begin at place `begin` of the rows as they are spelled
+  pub record Laid (out₀ out lens : List ℕ) (at from begin k : ℕ) : Type 0 where
+    pub begins : begin ≡ length (rowsPlaced (showRows t from rows))
     pub within : k ≤ z
     pub nine : z ≤ 9
     pub ends-long : length ends ≡ 9
@@ -82,10 +85,11 @@ module _ (h : Head) (t rows ends : List ℕ) (n z : ℕ) where
     pub unset : drop k lens ≡ replicate (9 - k) 0
 
   -- none is laid
-  pub laid-start : (out : List ℕ) → z ≤ 9 → length ends ≡ 9 → Rising 0 (take z ends) n → length (concat (left 0 0)) ≤ 12600 → 12600 ≤ length out → Laid out out (replicate 9 0) 0 0 0
-  laid-start out l e r s o = record { within = omega arith; nine = l; ends-long = e; going = going-start (fits-whole out (concat (left 0 0)) (omega arith)); short = s; all-short = s; rises = r; long = refl; told = refl; unset = refl }
+  pub laid-start : (out : List ℕ) → z ≤ 9 → length ends ≡ 9 → Rising 0 (take z ends) n → length (concat (left 0 0)) ≤ 12600 → 12600 ≤ length out → Laid out out (replicate 9 0) 0 0 0 0
+  unfolding rowsPlaced
+  laid-start out l e r s o = record { begins = refl; within = omega arith; nine = l; ends-long = e; going = going-start (fits-whole out (concat (left 0 0)) (omega arith)); short = s; all-short = s; rises = r; long = refl; told = refl; unset = refl }
 
-  module _ {out₀ out lens : List ℕ} {at from k : ℕ} (L : Laid out₀ out lens at from k) (i : k < z) where
+  module _ {out₀ out lens : List ℕ} {at from begin k : ℕ} (L : Laid out₀ out lens at from begin k) (i : k < z) where
     abbrev to : ℕ
     to = getD ends k 0
 
@@ -117,8 +121,8 @@ module _ (h : Head) (t rows ends : List ℕ) (n z : ℕ) where
     next-short = omega (arith, L .short, ap length parts, length-append this (concat (left (k + 1) to)))
 
     -- it is laid
-    pub laid-next : {out′ : List ℕ} {e : ℕ} (len : ℕ) → Wrote out out′ at e this → len ≡ e - at → Laid out₀ out′ (set lens k len) e to (k + 1)
-    laid-next {out′} {e} len w q =
+    pub laid-next : {out′ : List ℕ} {e : ℕ} (len end : ℕ) → Wrote out out′ at e this → len ≡ e - at → end ≡ begin + length (rowsPlaced (rowsBetween t rows from to)) → Laid out₀ out′ (set lens k len) e to end (k + 1)
+    laid-next {out′} {e} len end w q b =
         let nine = L .nine in
         let long = L .long in
         let r : Rising from (to ∷ drop (k + 1) (take z ends)) n = subst (λ (es : List ℕ). Rising from es n) next-end (L .rises) in
@@ -128,6 +132,7 @@ module _ (h : Head) (t rows ends : List ℕ) (n z : ℕ) where
         let fewer : 9 - k ≡ suc (9 - (k + 1)) = omega arith in
         let tail : drop (k + 1) lens ≡ replicate (9 - (k + 1)) 0 = unset-next (L .unset) fewer in
         record {
+          begins = omega (arith, b, L .begins, stretch-end t rows to from to (r .0) (omega arith));
           within = omega arith;
           nine = nine;
           ends-long = L .ends-long;
@@ -145,9 +150,9 @@ module _ (h : Head) (t rows ends : List ℕ) (n z : ℕ) where
         unset-next {m} u f = sym (drop-drop 1 k lens) ∙ ap (drop 1) (u ∙ ap (λ (j : ℕ). replicate j 0) f)
 
   -- all are laid
-  pub laid-all : {out₀ out lens : List ℕ} {at from k : ℕ} → Laid out₀ out lens at from k → z ≤ k → 12600 ≤ length out₀
+  pub laid-all : {out₀ out lens : List ℕ} {at from begin k : ℕ} → Laid out₀ out lens at from begin k → z ≤ k → 12600 ≤ length out₀
       → (lens ≡ padded 9 0 (map length (left 0 0))) × (out ≡ laid out₀ 0 (concat (left 0 0)))
-  laid-all {out₀} {out} {lens} {at} {from} {k} L d o =
+  laid-all {out₀} {out} {lens} {at} {from} {begin} {k} L d o =
       let w = L .within in
       let e = L .ends-long in
       let nine = L .nine in

@@ -3,12 +3,9 @@
 use mathlib.Core.Path.{_≡_, refl, sym, ap, _∙_}
 use mathlib.Core.Bool.{Bool, true, false}
 use mathlib.Core.List.{List, [], _∷_, _++_, map, append-nil, append-assoc}
-use Prim.Native.Nat.{ℕ, _+_, _*_, _-_, _≤_, _<_}
+use Prim.Native.Nat.{ℕ, _+_, _*_, _≤_, _<_}
 use native.Mathlib.Omega.{arith}
-use lib.Dec.{ltb}
-use lib.ListN.{length, take, drop, getD, drop-of-length-le}
-use lib.Seq.{drop-drop}
-use borrow.Author.Tests.{lt-ltb, le-ltb}
+use lib.ListN.{length, take, drop, getD}
 use Rattle.paper.specs.Lists.{bytes, if, every}
 use Rattle.paper.specs.Fields.{Kind, MP, P, A, O, S, edition, Field, fieldsOf}
 use Rattle.paper.specs.Plan.{Slots, Head, Row}
@@ -16,17 +13,15 @@ use Rattle.paper.specs.Judging.{allEmpty}
 use Rattle.paper.specs.Layout.{Span, shownAll}
 use Rattle.paper.specs.Writing.{mpSlots, rowSlots, decimal, soundHead, printAttrs, attrsOf, spelled, bare, opening, closing, bodyText, heading, rowsText, measuresText, page}
 use Rattle.paper.proofs.Small.{both}
-use Rattle.plan.specs.Numbers.{recordAt, spansIn, paperSpan, headNumbers, headWith, showHead, showRow, absent, within, headInText}
+use Rattle.plan.specs.Numbers.{spansIn, paperSpan, headNumbers, headWith, showHead, absent, within, headInText}
 use Rattle.plan.specs.declared.Plan as Code
 use Rattle.plan.proofs.Spans.{flat-long}
 use Rattle.plan.proofs.Doses.{all-empty}
-use Rattle.plan.proofs.Shown.{row-next, rows-shown}
-use Rattle.sound.specs.Sound.{headSound, recordSound, recordsSound}
+use Rattle.sound.specs.Sound.{headSound}
 use Rattle.sound.specs.Judged.{absentFrom}
-use Rattle.sound.proofs.SoundLaws.{each-sound}
 use Rattle.listing.specs.Numbered.{spansAt, fieldsFrom}
 use Rattle.listing.proofs.Flat.{head-fields, part-shown, part-every, two-first}
-use Rattle.writer.specs.Spelling.{rowText, headText, rowsBetween}
+use Rattle.writer.specs.Spelling.{rowText, peopleText, headText}
 use Rattle.writer.specs.Tags.{attribute, fieldsText, tagText, startText, measuresPart, gapText, placedText}
 use Rattle.writer.proofs.Spelled.{esc-digit, attrs-are}
 use Rattle.writer.proofs.Bodied.{bare-on, opening-on, closing-on, body-on}
@@ -65,14 +60,17 @@ rows-on b (r ∷ rs) x =
     ∙ sym (append-assoc (placedText b r) (rowsText true rs []) x)
     ∙ ap (λ (z : List ℕ). z ++ x) (sym (placed-first b r rs []))
 
+-- P, A and O one behind the other
+people-flat : (h : Head) → peopleText h ≡ bare P (h .person) [] ++ (bare A (h .author) [] ++ measuresText (h .measures) [])
+people-flat h =
+    let m : List ℕ = measuresText (h .measures) [] in
+    bare-on P (h .person) (bare A (h .author) m) ∙ ap (λ (y : List ℕ). bare P (h .person) [] ++ y) (bare-on A (h .author) m)
+
 -- the head is the tags of its elements, one behind the other
 pub head-flat : (h : Head) (a z : ℕ)
     → headText h a z ≡ opening MP (mpSlots h a z) [] ++ (bare P (h .person) [] ++ (bare A (h .author) [] ++ measuresText (h .measures) []))
 unfolding headText
-head-flat h a z =
-    let m : List ℕ = measuresText (h .measures) [] in
-    opening-on MP (mpSlots h a z) (bare P (h .person) (bare A (h .author) m))
-    ∙ ap (λ (y : List ℕ). opening MP (mpSlots h a z) [] ++ y) (bare-on P (h .person) (bare A (h .author) m) ∙ ap (λ (y : List ℕ). bare P (h .person) [] ++ y) (bare-on A (h .author) m))
+head-flat h a z = opening-on MP (mpSlots h a z) (peopleText h) ∙ ap (λ (y : List ℕ). opening MP (mpSlots h a z) [] ++ y) (people-flat h)
 
 -- a page is its head, its rows and its end
 pub page-front : (h : Head) (rs : List Row) (a z : ℕ) → page h rs a z ≡ headText h a z ++ rowsText false rs (closing MP [])
@@ -140,6 +138,13 @@ module _ (patch a z : ℕ) (t : List ℕ) (ss : List Span) (long : length ss ≡
       mp-spelled (decimal patch) (getD vs 0 []) (getD vs 1 []) a z small few
       ∙ ap (λ (q : Slots). bytes "<MP v=\"027\"" ++ (attribute (bytes "p") (decimal patch) ++ (printAttrs (attrsOf (fieldsFrom 2 2) q) ++ (32 ∷ 97 ∷ 61 ∷ 34 ∷ (48 + a) ∷ 34 ∷ 32 ∷ 122 ∷ 61 ∷ 34 ∷ (48 + z) ∷ 34 ∷ 62 ∷ [])))) two
 
+  pub front-pieces : headText (headWith patch (shownAll t ss)) a z ≡ startText patch a z t (headNumbers ss) ++ peopleText (headWith patch (shownAll t ss))
+  unfolding headText
+  front-pieces =
+      let h : Head = headWith patch (shownAll t ss) in
+      opening-on MP (mpSlots h a z) (peopleText h) ∙ ap (λ (y : List ℕ). y ++ peopleText h) start-is
+
+module _ (patch : ℕ) (t : List ℕ) (ss : List Span) (long : length ss ≡ 27) where
   measures-is : every (within (length t)) ss ≡ true → measuresText (take 7 (drop 20 (shownAll t ss))) [] ≡ measuresPart t 42 (headNumbers ss)
   unfolding measuresPart tagText
   measures-is w =
@@ -149,33 +154,37 @@ module _ (patch a z : ℕ) (t : List ℕ) (ss : List Span) (long : length ss ≡
       ap (λ (b : Bool). if b [] (bare O vs [])) none
       ∙ ap (λ (s : List ℕ). if (every absent (spansAt 7 42 (headNumbers ss))) [] (60 ∷ 79 ∷ (s ++ 47 ∷ 62 ∷ []))) (part-spelled t ss O 24 7 20 (head-fields .2) (omega arith))
 
-  pub head-pieces : every (within (length t)) ss ≡ true
-      → headText (headWith patch (shownAll t ss)) a z
-      ≡ startText patch a z t (headNumbers ss) ++ (tagText (bytes "<P") 6 8 t 6 (headNumbers ss) (bytes "/>") ++ (tagText (bytes "<A") 14 10 t 22 (headNumbers ss) (bytes "/>") ++ measuresPart t 42 (headNumbers ss)))
+  pub people-pieces : every (within (length t)) ss ≡ true
+      → peopleText (headWith patch (shownAll t ss))
+      ≡ tagText (bytes "<P") 6 8 t 6 (headNumbers ss) (bytes "/>") ++ (tagText (bytes "<A") 14 10 t 22 (headNumbers ss) (bytes "/>") ++ measuresPart t 42 (headNumbers ss))
   unfolding tagText
-  head-pieces w =
+  people-pieces w =
       let h : Head = headWith patch (shownAll t ss) in
       let p : List ℕ = tagText (bytes "<P") 6 8 t 6 (headNumbers ss) (bytes "/>") in
       let q : List ℕ = tagText (bytes "<A") 14 10 t 22 (headNumbers ss) (bytes "/>") in
       let p-is : bare P (h .person) [] ≡ p = ap (λ (s : List ℕ). 60 ∷ 80 ∷ (s ++ 47 ∷ 62 ∷ [])) (part-spelled t ss P 6 8 2 (head-fields .0) (omega arith)) in
       let q-is : bare A (h .author) [] ≡ q = ap (λ (s : List ℕ). 60 ∷ 65 ∷ (s ++ 47 ∷ 62 ∷ [])) (part-spelled t ss A 14 10 10 (head-fields .1) (omega arith)) in
-      head-flat h a z
-      ∙ ap (λ (y : List ℕ). y ++ (bare P (h .person) [] ++ (bare A (h .author) [] ++ measuresText (h .measures) []))) start-is
-      ∙ ap (λ (y : List ℕ). startText patch a z t (headNumbers ss) ++ (y ++ (bare A (h .author) [] ++ measuresText (h .measures) []))) p-is
-      ∙ ap (λ (y : List ℕ). startText patch a z t (headNumbers ss) ++ (p ++ (y ++ measuresText (h .measures) []))) q-is
-      ∙ ap (λ (y : List ℕ). startText patch a z t (headNumbers ss) ++ (p ++ (q ++ y))) (measures-is w)
+      people-flat h
+      ∙ ap (λ (y : List ℕ). y ++ (bare A (h .author) [] ++ measuresText (h .measures) [])) p-is
+      ∙ ap (λ (y : List ℕ). p ++ (y ++ measuresText (h .measures) [])) q-is
+      ∙ ap (λ (y : List ℕ). p ++ (q ++ y)) (measures-is w)
 
 -- spans are half as many as their numbers
 pub spans-counted : (ss : List Span) (l : List ℕ) → l ≡ headNumbers ss → length l ≡ 56 → length ss ≡ 27
 spans-counted ss l e h = omega (arith, flat-long ss, ap length e)
 
--- the head of a plan in numbers, by the numbers of its spans
-pub head-by : (t : List ℕ) (p : Code.Plan) (a z : ℕ) (l : List ℕ) → length (map paperSpan (p .head)) ≡ 27 → a ≤ 9 → z ≤ 9 → l ≡ headNumbers (map paperSpan (p .head)) → headSound t p ≡ true
-    → headText (showHead t p) a z
-    ≡ startText (p .patch) a z t l ++ (tagText (bytes "<P") 6 8 t 6 l (bytes "/>") ++ (tagText (bytes "<A") 14 10 t 22 l (bytes "/>") ++ measuresPart t 42 l))
+-- the head of a plan in numbers before P, by the numbers of its spans
+pub front-by : (t : List ℕ) (p : Code.Plan) (a z : ℕ) (l : List ℕ) → length (map paperSpan (p .head)) ≡ 27 → a ≤ 9 → z ≤ 9 → l ≡ headNumbers (map paperSpan (p .head))
+    → headText (showHead t p) a z ≡ startText (p .patch) a z t l ++ peopleText (showHead t p)
+unfolding showHead
+front-by t p a z l long h k e = rw e (front-pieces (p .patch) a z t (map paperSpan (p .head)) long h k)
+
+-- P, A and O by the numbers of their spans
+pub people-by : (t : List ℕ) (p : Code.Plan) (l : List ℕ) → length (map paperSpan (p .head)) ≡ 27 → l ≡ headNumbers (map paperSpan (p .head)) → headSound t p ≡ true
+    → peopleText (showHead t p) ≡ tagText (bytes "<P") 6 8 t 6 l (bytes "/>") ++ (tagText (bytes "<A") 14 10 t 22 l (bytes "/>") ++ measuresPart t 42 l)
 unfolding showHead headSound headInText
-head-by t p a z l long h k e s =
-    rw e (head-pieces (p .patch) a z t (map paperSpan (p .head)) long h k (both (every (within (length t)) (map paperSpan (p .head))) (soundHead (showHead t p)) s .0))
+people-by t p l long e s =
+    rw e (people-pieces (p .patch) t (map paperSpan (p .head)) long (both (every (within (length t)) (map paperSpan (p .head))) (soundHead (showHead t p)) s .0))
 
 -- its spans lie in the text
 pub head-inside : (t : List ℕ) (p : Code.Plan) (l : List ℕ) → length (map paperSpan (p .head)) ≡ 27 → l ≡ headNumbers (map paperSpan (p .head)) → headSound t p ≡ true
@@ -188,47 +197,3 @@ head-inside t p l long e s j n h =
 pub measures-by : (t l : List ℕ) {b : Bool} → absentFrom 7 20 l ≡ b → measuresPart t 42 l ≡ if b [] (tagText (bytes "<O") 24 7 t 42 l (bytes "/>"))
 unfolding measuresPart absentFrom spansIn spansAt
 measures-by t l e = ap (λ (b : Bool). if b [] (tagText (bytes "<O") 24 7 t 42 l (bytes "/>"))) e
-
--- ---- the rows in a loop
-
-module _ (t rows : List ℕ) (from to i : ℕ) (l : from ≤ i) (h : i < to) where
-  -- a record behind others
-  behind : recordAt (drop (from * 48) rows) (i - from) ≡ recordAt rows i
-  behind = let q : from * 48 + (i - from) * 48 ≡ i * 48 = omega arith in ap (take 48) (drop-drop ((i - from) * 48) (from * 48) rows ∙ ap (λ (k : ℕ). drop k rows) q)
-
-  -- record i is sound
-  pub sound-at : recordsSound t (to - from) (drop (from * 48) rows) ≡ true → recordSound t (recordAt rows i) ≡ true
-  sound-at e = ap (recordSound t) (sym behind) ∙ each-sound t (to - from) (drop (from * 48) rows) (i - from) (omega arith) e
-
-  -- and row i is the next one
-  between-next : drop (i - from) (rowsBetween t rows from to) ≡ showRow t (recordAt rows i) ∷ drop (i + 1 - from) (rowsBetween t rows from to)
-  between-next =
-      let q : i - from + 1 ≡ i + 1 - from = omega arith in
-      row-next t (to - from) (drop (from * 48) rows) (i - from) (omega arith)
-      ∙ ap (λ (r : List ℕ). showRow t r ∷ drop (i - from + 1) (rowsBetween t rows from to)) behind
-      ∙ ap (λ (k : ℕ). showRow t (recordAt rows i) ∷ drop k (rowsBetween t rows from to)) q
-
--- the bytes of the rows from row i on, and the page's end
-abbrev pub rowsLeft : List ℕ → List ℕ → ℕ → ℕ → ℕ → List ℕ
-rowsLeft t rows from to i = rowsText (ltb from i) (drop (i - from) (rowsBetween t rows from to)) (closing MP [])
-
--- before the first row all are left
-pub rows-begin : (t rows : List ℕ) (from to : ℕ) → rowsText false (rowsBetween t rows from to) (closing MP []) ≡ rowsLeft t rows from to from
-rows-begin t rows from to = let q : from - from ≡ 0 = omega arith in rw (le-ltb from from (omega arith), q)
-
--- the next row comes first
-pub rows-next : (t rows : List ℕ) (from to i : ℕ) → from ≤ i → i < to
-    → rowsLeft t rows from to i ≡ placedText (ltb from i) (showRow t (recordAt rows i)) ++ rowsLeft t rows from to (i + 1)
-rows-next t rows from to i l h =
-    ap (λ (rs : List Row). rowsText (ltb from i) rs (closing MP [])) (between-next t rows from to i l h)
-    ∙ placed-first (ltb from i) (showRow t (recordAt rows i)) (drop (i + 1 - from) (rowsBetween t rows from to)) (closing MP [])
-    ∙ ap (λ (b : Bool). placedText (ltb from i) (showRow t (recordAt rows i)) ++ rowsText b (drop (i + 1 - from) (rowsBetween t rows from to)) (closing MP [])) (sym (lt-ltb from (i + 1) (omega arith)))
-
-no-rows : (t rows : List ℕ) (from to i : ℕ) → to ≤ i → drop (i - from) (rowsBetween t rows from to) ≡ []
-no-rows t rows from to i h = let l = rows-shown t (to - from) (drop (from * 48) rows) in drop-of-length-le (rowsBetween t rows from to) {i = i - from} (omega arith)
-
--- behind the last row the page's end is left
-pub rows-end : (t rows : List ℕ) (from to i : ℕ) → to ≤ i → i ≤ to → rowsLeft t rows from to i ≡ rowsText (ltb from to) [] (closing MP [])
-rows-end t rows from to i h k =
-    let q : i ≡ to = omega arith in
-    ap (λ (rs : List Row). rowsText (ltb from i) rs (closing MP [])) (no-rows t rows from to i h) ∙ ap (λ (j : ℕ). rowsText (ltb from j) [] (closing MP [])) q

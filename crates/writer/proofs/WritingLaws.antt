@@ -105,6 +105,7 @@ module _ (out : List ℕ) (p : Plan) (rows text : List ℕ) where
             pub are : answer ≡ written (pages h (length es) 1 (parted text rows 0 es))
             pub rise : Rising 0 es n
             pub fit : length (concat (pages h (length es) 1 (parted text rows 0 es))) ≤ 12600
+            pub all : concat (parted text rows 0 es) ≡ showRows text n rows
 
           offsets-long : (qs : List (List Row)) (i : ℕ) → length (offsets i qs) ≡ length qs
           offsets-long [] i = refl
@@ -127,6 +128,7 @@ module _ (out : List ℕ) (p : Plan) (rows text : List ℕ) where
               record {
                 are = are;
                 rise = rw o (rising qs 0 n (omega (arith, ap length c, rows-shown text n rows)));
+                all = ap concat whole ∙ c;
                 fit = Room.room shown (pages h (length es) 1 (parted text rows 0 es)) (sym is-fresh ∙ are) .2;
               }
 

@@ -26,6 +26,11 @@ measureOf r = 2 * rowAdds r + if (heading r) 1 0
 abbrev pub sizeIn : ℕ → ℕ
 sizeIn m = m / 2
 
+-- what the rows of these numbers add together
+abbrev pub sizesIn : List ℕ → ℕ
+sizesIn [] = 0
+sizesIn (m ∷ ms) = sizeIn m + sizesIn ms
+
 -- the row of that number is a heading
 abbrev pub headingIn : ℕ → Bool
 headingIn m = eqb (m % 2) 1

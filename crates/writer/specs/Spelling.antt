@@ -13,9 +13,13 @@ use Rattle.plan.specs.Numbers.{showRows}
 unfoldable pub rowText : Row → List ℕ
 rowText r = if (heading r) (opening S (r .slots) []) (bodyText (r .ws) (r .kind) (rowSlots r) [])
 
+-- P, A and O, the same on all pages
+abbrev pub peopleText : Head → List ℕ
+peopleText h = bare P (h .person) (bare A (h .author) (measuresText (h .measures) []))
+
 -- page a of z before its rows: the start tag of MP, and P, A, O
 unfoldable pub headText : Head → ℕ → ℕ → List ℕ
-headText h a z = opening MP (mpSlots h a z) (bare P (h .person) (bare A (h .author) (measuresText (h .measures) [])))
+headText h a z = opening MP (mpSlots h a z) (peopleText h)
 
 -- the rows that the records from one on up to another show, counted from 0
 abbrev pub rowsBetween : List ℕ → List ℕ → ℕ → ℕ → List Row

@@ -1,9 +1,10 @@
 -- Tags: the pieces of tags and rows as the code lays them, from the numbers in which their values stand. Serves the code's inner contracts.
 -- Assumes nothing.
-use mathlib.Core.Bool.{Bool, true, _&&_}
+use mathlib.Core.Path.{_≡_}
+use mathlib.Core.Bool.{Bool, true, false, _&&_}
 use mathlib.Core.List.{List, [], _∷_, _++_}
-use Prim.Native.Nat.{ℕ, _+_}
-use lib.ListN.{getD}
+use Prim.Native.Nat.{ℕ, _+_, _≤_}
+use lib.ListN.{length, getD, take, drop}
 use Rattle.paper.specs.Lists.{bytes, if, every}
 use Rattle.paper.specs.Values.{escape}
 use Rattle.paper.specs.Plan.{Dose, scheme, freeText, unstated, Row}
@@ -80,3 +81,22 @@ gapText inside heads = if inside (if heads (bytes "</S>") []) (if heads [] (byte
 -- a row on a page, behind what stands before it
 unfoldable pub placedText : Bool → Row → List ℕ
 placedText inside r = gapText inside (heading r) ++ rowText r
+
+-- rows one behind the other, the first as behind others
+unfoldable pub rowsPlaced : List Row → List ℕ
+rowsPlaced [] = []
+rowsPlaced (r ∷ rs) = placedText true r ++ rowsPlaced rs
+
+-- the rows of a page and its end, from rows so spelled: the first opens an S, and the page's end closes it; the flag says that the first is a heading
+abbrev pub rowsPage : Bool → List ℕ → List ℕ
+rowsPage heads [] = bytes "</MP>"
+rowsPage heads (c ∷ w) = gapText false heads ++ (drop (length (gapText true heads)) (c ∷ w) ++ bytes "</S></MP>")
+
+-- rows so spelled begin with what stands before a heading, if the first is one
+abbrev pub Opened : Bool → List ℕ → Type 0
+Opened heads [] = Unit {0}
+Opened heads (c ∷ w) = length (gapText true heads) ≤ length (c ∷ w)
+
+-- the bytes stand at the beginning of a room, if the room of nine pages takes them
+abbrev pub Stays : List ℕ → List ℕ → Type 0
+Stays room w = length w ≤ 12600 → take (length w) room ≡ w

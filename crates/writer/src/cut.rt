@@ -14,7 +14,7 @@ pub struct PageEnds {
 }
 
 // What the row of that number adds to a page.
-fn size_in(m: u32) -> usize
+pub fn size_in(m: u32) -> usize
     ensures { λ r. ⌜ (r ≡ sizeIn m) × (r < 4294967296) ⌝ }
 {
     (m / 2) as usize

@@ -1,26 +1,24 @@
 // Spelling: the rows, the head and the pages of a plan in numbers, spelled as document 01's fresh pages into the lent room. Each function returns the place
 // behind what it wrote, and all other bytes of the room stay.
 ghost use mathlib.Core.Path.{_≡_};
-ghost use mathlib.Core.Bool.{true, false};
-ghost use mathlib.Core.List.{[]};
-ghost use Prim.Native.Nat.{_+_, _*_, _-_, _≤_};
-ghost use lib.ListN.{length, drop};
+ghost use mathlib.Core.Bool.{true};
+ghost use mathlib.Core.List.{_++_};
+ghost use Prim.Native.Nat.{_+_, _*_, _≤_};
+ghost use lib.ListN.{length};
 ghost use Rattle.paper.specs.Lists.{every};
-ghost use Rattle.paper.specs.Fields.{MP, S, is};
-ghost use Rattle.paper.specs.Writing.{closing, rowsText, page};
+ghost use Rattle.paper.specs.Fields.{S, is};
 ghost use Rattle.fields.specs.Columns.{keyColumn};
 ghost use Rattle.plan.specs.Numbers.{recordAt, showRow, showHead, inText, within};
 ghost use Rattle.plan.specs.Records.{paperKind, paperDose};
-ghost use Rattle.sound.specs.Sound.{headSound, recordSound, recordsSound};
+ghost use Rattle.sound.specs.Sound.{headSound, recordSound};
 ghost use Rattle.listing.specs.Written.{Wrote};
 ghost use Rattle.listing.specs.Numbered.{spansAt};
-ghost use Rattle.writer.specs.Spelling.{rowText, headText, rowsBetween};
-ghost use Rattle.writer.specs.Tags.{doseText, doseWithin, substanceText, endText, medicationText, startText, measuresPart, gapText, placedText};
+ghost use Rattle.writer.specs.Spelling.{rowText, headText, peopleText};
+ghost use Rattle.writer.specs.Tags.{doseText, doseWithin, substanceText, endText, medicationText, startText, measuresPart, gapText, placedText, rowsPage, Opened};
 use crate::tags::lay_field;
 use crate::tags::lay_fields;
 use crate::tags::lay_number;
 use crate::tags::lay_tag;
-use fields::lookup::keys;
 use markup::values::lay;
 use plan::Dose;
 use plan::Kind;
@@ -178,18 +176,6 @@ fn lay_kind(
     }
 }
 
-// Writes row i, counted from 0: a heading's start tag, or the row whole; returns the place behind it.
-pub fn lay_row(out: &mut [u8], at: usize, rows: &[u32], i: usize, text: &[u8]) -> usize
-    requires { ⌜ ((i + 1) * 48 ≤ length (now rows))
-        × (recordSound (now text) (recordAt (now rows) i) ≡ true)
-        × (at + length (rowText (showRow (now text) (recordAt (now rows) i))) ≤ length (now out)) ⌝ }
-    ensures { λ r. ⌜ Wrote (now (out .entry)) (now (out .exit)) at r (rowText (showRow (now (text .entry)) (recordAt (now (rows .entry)) i))) ⌝ }
-{
-    let keys = keys();
-    let kind = kind_at(rows, i);
-    lay_kind(out, at, &keys, kind, rows, i, text)
-}
-
 // Writes the start tag of MP on page a of z; the spans of U and l stand from place 2 of the numbers on.
 fn lay_start(
     out: &mut [u8],
@@ -244,7 +230,21 @@ fn lay_measures(out: &mut [u8], at: usize, keys: &[u64], text: &[u8], numbers: &
     lay_tag(out, at, b"<O", keys, O_AI, 7, text, numbers, 42, b"/>")
 }
 
-// Writes page a of z up to its rows.
+// Writes P, A and O, which are the same on all pages.
+pub fn lay_people(out: &mut [u8], at: usize, keys: &[u64], plan: Plan, text: &[u8]) -> usize
+    requires { ⌜ (now keys ≡ keyColumn)
+        × (headSound (now text) plan ≡ true)
+        × (at + length (peopleText (showHead (now text) plan)) ≤ length (now out)) ⌝ }
+    ensures { λ r. ⌜ Wrote (now (out .entry)) (now (out .exit)) at r (peopleText (showHead (now (text .entry)) plan)) ⌝ }
+{
+    let head = plan.head;
+    let numbers = head_numbers(head);
+    let b = lay_tag(out, at, b"<P", keys, P_G, 8, text, &numbers, 6, b"/>");
+    let o = lay_tag(out, b, b"<A", keys, A_LANR, 10, text, &numbers, 22, b"/>");
+    lay_measures(out, o, keys, text, &numbers)
+}
+
+// Writes page a of z up to its rows; P, A and O are given as they are spelled.
 fn lay_front(
     out: &mut [u8],
     at: usize,
@@ -253,20 +253,20 @@ fn lay_front(
     a: u8,
     z: u8,
     text: &[u8],
+    people: &[u8],
 ) -> usize
     requires { ⌜ (now keys ≡ keyColumn)
         × (headSound (now text) plan ≡ true)
         × (a ≤ 9)
         × (z ≤ 9)
+        × (now people ≡ peopleText (showHead (now text) plan))
         × (at + length (headText (showHead (now text) plan) a z) ≤ length (now out)) ⌝ }
     ensures { λ r. ⌜ Wrote (now (out .entry)) (now (out .exit)) at r (headText (showHead (now (text .entry)) plan) a z) ⌝ }
 {
     let head = plan.head;
     let numbers = head_numbers(head);
-    let p = lay_start(out, at, keys, plan.patch, a, z, text, &numbers);
-    let b = lay_tag(out, p, b"<P", keys, P_G, 8, text, &numbers, 6, b"/>");
-    let o = lay_tag(out, b, b"<A", keys, A_LANR, 10, text, &numbers, 22, b"/>");
-    lay_measures(out, o, keys, text, &numbers)
+    let b = lay_start(out, at, keys, plan.patch, a, z, text, &numbers);
+    lay(out, b, people)
 }
 
 // Whether a row of this kind is a heading.
@@ -300,7 +300,7 @@ fn lay_gap(out: &mut [u8], at: usize, inside: bool, heading: bool) -> usize
 }
 
 // Writes row i on a page, behind what stands before it; `inside` says that an S is open.
-fn lay_placed(
+pub fn lay_placed(
     out: &mut [u8],
     at: usize,
     keys: &[u64],
@@ -321,65 +321,46 @@ fn lay_placed(
     lay_kind(out, a, keys, kind, rows, i, text)
 }
 
-// Writes the end of a page: of the S that is open, if one is, and of MP.
-fn lay_last(out: &mut [u8], at: usize, inside: bool) -> usize
-    requires { ⌜ at + length (rowsText inside [] (closing MP [])) ≤ length (now out) ⌝ }
-    ensures { λ r. ⌜ Wrote (now (out .entry)) (now (out .exit)) at r (rowsText inside [] (closing MP [])) ⌝ }
+// Writes the rows of a page and its end. The rows are given as they are spelled behind others; `heading` says that the first of them is a heading.
+fn lay_rows(out: &mut [u8], at: usize, placed: &[u8], heading: bool) -> usize
+    requires { ⌜ Opened heading (now placed)
+        × (at + length (rowsPage heading (now placed)) ≤ length (now out)) ⌝ }
+    ensures { λ r. ⌜ Wrote (now (out .entry)) (now (out .exit)) at r (rowsPage heading (now (placed .entry))) ⌝ }
 {
-    if inside {
-        return lay(out, at, b"</S></MP>");
+    if placed.len() == 0 {
+        return lay(out, at, b"</MP>");
     }
-    lay(out, at, b"</MP>")
+    if heading {
+        let a = lay(out, at, &placed[4..]);
+        return lay(out, a, b"</S></MP>");
+    }
+    let b = lay(out, at, b"<S>");
+    let c = lay(out, b, placed);
+    lay(out, c, b"</S></MP>")
 }
 
-// Writes the rows `from` up to `to` of a page, counted from 0, and the page's end.
-fn lay_rows(
-    out: &mut [u8],
-    at: usize,
-    keys: &[u64],
-    rows: &[u32],
-    from: usize,
-    to: usize,
-    text: &[u8],
-) -> usize
-    requires { ⌜ (now keys ≡ keyColumn)
-        × (from ≤ to)
-        × (to * 48 ≤ length (now rows))
-        × (recordsSound (now text) (to - from) (drop (from * 48) (now rows)) ≡ true)
-        × (at + length (rowsText false (rowsBetween (now text) (now rows) from to) (closing MP [])) ≤ length (now out)) ⌝ }
-    ensures { λ r. ⌜ Wrote (now (out .entry)) (now (out .exit)) at r (rowsText false (rowsBetween (now (text .entry)) (now (rows .entry)) from to) (closing MP [])) ⌝ }
-{
-    let mut a = at;
-    let mut i = from;
-    while i < to {
-        a = lay_placed(out, a, keys, rows, i, from < i, text);
-        i += 1;
-    }
-    lay_last(out, a, from < to)
-}
-
-// Writes page a of z with the rows `from` up to `to`, counted from 0.
+// Writes page a of z; P, A and O and its rows are given as they are spelled.
 pub fn lay_page(
     out: &mut [u8],
     at: usize,
+    keys: &[u64],
     plan: Plan,
     a: u8,
     z: u8,
-    rows: &[u32],
-    from: usize,
-    to: usize,
     text: &[u8],
+    people: &[u8],
+    placed: &[u8],
+    heading: bool,
 ) -> usize
-    requires { ⌜ (headSound (now text) plan ≡ true)
+    requires { ⌜ (now keys ≡ keyColumn)
+        × (headSound (now text) plan ≡ true)
         × (a ≤ 9)
         × (z ≤ 9)
-        × (from ≤ to)
-        × (to * 48 ≤ length (now rows))
-        × (recordsSound (now text) (to - from) (drop (from * 48) (now rows)) ≡ true)
-        × (at + length (page (showHead (now text) plan) (rowsBetween (now text) (now rows) from to) a z) ≤ length (now out)) ⌝ }
-    ensures { λ r. ⌜ Wrote (now (out .entry)) (now (out .exit)) at r (page (showHead (now (text .entry)) plan) (rowsBetween (now (text .entry)) (now (rows .entry)) from to) a z) ⌝ }
+        × (now people ≡ peopleText (showHead (now text) plan))
+        × Opened heading (now placed)
+        × (at + length (headText (showHead (now text) plan) a z ++ rowsPage heading (now placed)) ≤ length (now out)) ⌝ }
+    ensures { λ r. ⌜ Wrote (now (out .entry)) (now (out .exit)) at r (headText (showHead (now (text .entry)) plan) a z ++ rowsPage heading (now (placed .entry))) ⌝ }
 {
-    let keys = keys();
-    let b = lay_front(out, at, &keys, plan, a, z, text);
-    lay_rows(out, b, &keys, rows, from, to, text)
+    let b = lay_front(out, at, keys, plan, a, z, text, people);
+    lay_rows(out, b, placed, heading)
 }

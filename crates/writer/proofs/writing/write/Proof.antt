@@ -15,9 +15,11 @@ use Rattle.plan.specs.Numbers.{rowsLent, showHead, showRows}
 use Rattle.plan.specs.declared.Plan.{Plan}
 use Rattle.sound.specs.Sound.{headSound, firstBadIn}
 use Rattle.writer.specs.Answers.{numbersOf}
-use Rattle.writer.specs.Cutting.{measureOf, Cutting, cutOf, Tells}
+use Rattle.writer.specs.Cutting.{measureOf, Cutting, cutOf, Tells, parted}
+use Rattle.writer.specs.Tags.{rowsPlaced}
 use Rattle.writer.specs.Promise.{Promised, answered, callFits}
 use Rattle.writer.specs.declared.writing.Writing.{Writing}
+use Rattle.writer.proofs.Placed.{pages-hold}
 use Rattle.writer.proofs.Stretches.{bad-row}
 use Rattle.writer.proofs.WritingLaws.{well-made, no-call, bad-head, bad-rows, records, long-head, Paged, decided, no-cut, a-cut, Told, refuses, writes, place-small}
 use Rattle.writer.proofs.writing.write.Statement.{statement}
@@ -92,7 +94,7 @@ abbrev cutting : tie.Start → Cutting
 cutting s = cutOf (length (page (head s) [] 1 1)) (map measureOf (shown s))
 
 tells-at : (c : tie.After-cut-rows) → Tells (c .cut-rows .result) (cutting (start₅ c))
-tells-at c = rw (sym (c .before .before .before .before .before .before .head-size .ensures), sym (c .before .before .row-measures .ensures)) (c .cut-rows .ensures)
+tells-at c = rw (sym (c .before .before .before .before .before .before .head-size .ensures), sym (c .before .before .row-measures .ensures .0)) (c .cut-rows .ensures)
 
 uncut : (c : tie.After-cut-rows) → let s = start₅ c in (c .cut-rows .result .place ≡ 0 → ⊥) → answer s ≡ tooLong (c .cut-rows .result .place)
 uncut c z =
@@ -210,18 +212,24 @@ returns-5 c =
     let s = start₅ C in
     refuse s 14 (C .cut-rows .result .place) _ (uncut C (c .before .if5 .taken)) (refl, refl) _ (ap numbersOf (c .refusal5 .ensures .0)) (c .refusal5 .ensures .1 .0) (c .refusal5 .ensures .1 .1)
 
+slice-aggregate-lay-pages : tie.Need-slice-aggregate-lay-pages
+slice-aggregate-lay-pages c = search needs
+
 lay-pages-requires : tie.Need-lay-pages-requires
 lay-pages-requires c κs =
-    let C = c .before .before .before in
+    let C = c .before .before .before .before in
     let s = start₅ C in
+    let R = C .before .before in
     let N = C .before .before .before .before .before .before .before .before in
     let H = N .before .before in
     let F = well-made (out s) (plan s) (rows s) (fits-at (H .before .before)) in
-    let (k, (w, p)) = cut-at (c .before .before) in
-    (head-at H, F .lent, records (out s) (plan s) (rows s) (text s) (fits-at (H .before .before)) (head-at H) (none-at N), w, p .rise, rw k at (p .fit), F .room)
+    let es = take (C .cut-rows .result .pages) (C .cut-rows .result .ends) in
+    let (k, (w, p)) = cut-at (c .before .before .before) in
+    let few : length (rowsPlaced (shown s)) ≤ 12600 = omega (arith, ap (λ (l : List Row). length (rowsPlaced l)) (p .all), pages-hold (head s) (length es) 1 (parted (text s) (rows s) 0 es), p .fit) in
+    (head-at H, F .lent, F .few, w, p .rise, rw k at (p .fit), F .room, R .row-measures .ensures .0, R .row-measures .ensures .1 few)
 
-cast-t33 : tie.Need-cast-t33
-cast-t33 c = let (k, (w, p)) = cut-at (c .before .before .before .before .before) in omega (arith, w)
+cast-t35 : tie.Need-cast-t35
+cast-t35 c = let (k, (w, p)) = cut-at (c .before .before .before .before .before .before) in omega (arith, w)
 
 same-length : tie.Need-same-length
 same-length c = search needs
@@ -229,7 +237,7 @@ same-length c = search needs
 returns-6 : tie.Need-returns-6
 returns-6 c =
     let L = c .before .before in
-    let E = L .before .before .before in
+    let E = L .before .before .before .before in
     let s = start₅ (E .before) in
     let r = E .before .cut-rows .result in
     let (k, (w, p)) = cut-at E in
@@ -260,7 +268,8 @@ write-spec =
     cast-t28
     refusal-requires-5
     returns-5
+    slice-aggregate-lay-pages
     lay-pages-requires
-    cast-t33
+    cast-t35
     same-length
     returns-6)
