@@ -10,7 +10,7 @@ use borrow.Author.Tests.{lt-ltb, le-ltb}
 use Rattle.paper.specs.Lists.{if}
 use Rattle.paper.specs.Listing.{line, numeral}
 use Rattle.paper.specs.Writing.{digitsOf, decimal}
-use Rattle.listing.specs.Written.{given}
+use Rattle.listing.specs.Numbered.{given}
 
 -- ten times itself so often
 abbrev tenfold : ℕ → ℕ

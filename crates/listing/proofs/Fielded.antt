@@ -8,7 +8,6 @@ use native.Mathlib.Numerals.{add-one}
 use native.Mathlib.Omega.{arith}
 use lib.ListN.{length, take, drop, getD, length-take, length-drop}
 use lib.Seq.{drop-cons}
-use borrow.Author.Tests.{ne-eqb, leb-true}
 use Rattle.paper.specs.Lists.{every}
 use Rattle.paper.specs.Fields.{Field, table}
 use Rattle.paper.specs.Plan.{Slots}
@@ -18,9 +17,11 @@ use Rattle.paper.proofs.Small.{both}
 use Rattle.fields.specs.Places.{noField, fieldAt, keyOf, nameOf}
 use Rattle.fields.proofs.TableLaws.{letters-back}
 use Rattle.plan.specs.Numbers.{within}
-use Rattle.listing.specs.Written.{Wrote, given}
-use Rattle.listing.specs.Numbered.{spanAt, spansAt, fieldsFrom, linesOf}
-use Rattle.listing.proofs.Pieces.{Fits, Going, going-start, going-fits, going-on, first-fits, second-fits, both-written}
+use Rattle.room.specs.Written.{Wrote}
+use Rattle.listing.specs.Numbered.{given, linesOf}
+use Rattle.room.specs.Numbered.{spanAt, spansAt, fieldsFrom}
+use Rattle.room.proofs.Parts.{span-inside}
+use Rattle.room.proofs.Pieces.{Fits, Going, going-start, going-fits, going-on, first-fits, second-fits, both-written}
 
 -- lines behind lines are printed behind them
 pub print-append : (a b : List Line) → print (a ++ b) ≡ print a ++ print b
@@ -33,10 +34,6 @@ print-append (l ∷ a) b =
 given-some : (k v : List ℕ) → 1 ≤ length v → given k v ≡ line k v ∷ []
 given-some k [] h = absurd (omega arith)
 given-some k (c ∷ v) h = refl
-
--- a present span lies within the text
-pub span-inside : (n from len : ℕ) → (len ≡ 0 → ⊥) → within n (record { at = from; len = len }) ≡ true → from + len ≤ n
-span-inside n from len h e = leb-true (from + len) n (rw (ne-eqb len 0 h) at e)
 
 -- the line of a present value, with the letters' key in the place of the letters
 pub present-line : (path t : List ℕ) (id key from len : ℕ) → id < 52 → key ≡ keyOf (fieldAt id .letters) → (len ≡ 0 → ⊥) → within (length t) (record { at = from; len = len }) ≡ true

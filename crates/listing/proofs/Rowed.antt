@@ -3,65 +3,31 @@
 use mathlib.Core.Path.{_≡_, refl, sym, ap, _∙_}
 use mathlib.Core.Bool.{Bool, true, false, _&&_}
 use mathlib.Core.List.{List, [], _∷_, _++_, append-nil, append-assoc}
-use Prim.Native.Nat.{ℕ, zero, suc, _+_, _*_, _≤_, _<_}
+use Prim.Native.Nat.{ℕ, zero, suc, _+_, _≤_, _<_}
 use native.Mathlib.Nat.{le-of-suc-le-suc, not-suc-le-zero}
 use native.Mathlib.Omega.{arith}
-use lib.ListN.{length, take, drop, getD, drop-of-length-le}
+use lib.ListN.{take, drop, getD, drop-of-length-le}
 use lib.Seq.{drop-drop}
-use Rattle.paper.specs.Lists.{bytes, if, every}
-use Rattle.paper.specs.Fields.{Kind, unknown, S, M, W, R, X, is, Field, fieldsOf}
+use Rattle.paper.specs.Lists.{bytes, if}
+use Rattle.paper.specs.Fields.{Kind, S, M, W, is, Field, fieldsOf}
 use Rattle.paper.specs.Plan.{Slots, Row}
 use Rattle.paper.specs.Judging.{allEmpty}
-use Rattle.paper.specs.Layout.{Span, shownAll}
+use Rattle.paper.specs.Layout.{shownAll}
 use Rattle.paper.specs.Writing.{decimal}
 use Rattle.paper.specs.Listing.{Line, line, path, fieldLines, elementLines, wLines, rowMark, rowLines, rowsLines, print}
 use Rattle.paper.proofs.Small.{both}
-use Rattle.plan.specs.Numbers.{recordAt, spanIn, spansIn, spansOf, kindShown, ownSpans, twos, before, toLast, rowWith, showRow, showRows, within, inText, knownKind, spareAbsent, fitRecord, fitRows}
-use Rattle.plan.proofs.Stores.{record-number, records-behind}
-use Rattle.plan.proofs.Spans.{every-part, spans-part, part-shown}
+use Rattle.plan.specs.Numbers.{recordAt, spansOf, kindShown, ownSpans, twos, before, toLast, rowWith, showRow, showRows, inText, knownKind, spareAbsent, fitRecord, fitRows}
+use Rattle.plan.proofs.Stores.{records-behind}
 use Rattle.plan.proofs.Shown.{row-next, rows-shown}
-use Rattle.listing.specs.Written.{given}
-use Rattle.listing.specs.Numbered.{spanAt, spansAt, fieldsFrom, linesOf, spanPlace, plainRow, substanceLines, medicationRow}
+use Rattle.listing.specs.Numbered.{given, linesOf, plainRow, substanceLines, medicationRow}
+use Rattle.room.proofs.Parts.{part-of-row, row-fields}
+use Rattle.room.specs.Numbered.{spansAt, fieldsFrom, spanPlace}
 use Rattle.listing.proofs.Fielded.{print-append}
-
--- ---- the spans of a record among the numbers of the rows
-
-span-at-place : (rows : List ℕ) (i j : ℕ) → j < 19 → spanIn (recordAt rows i) j ≡ spanAt rows (spanPlace i j)
-span-at-place rows i j h =
-    let a : i * 48 + (2 + 2 * j) ≡ spanPlace i j = omega arith in
-    let b : i * 48 + (3 + 2 * j) ≡ suc (spanPlace i j) = omega arith in
-    let x = record-number rows i (2 + 2 * j) (omega arith) ∙ ap (λ (k : ℕ). getD rows k 0) a in
-    let y = record-number rows i (3 + 2 * j) (omega arith) ∙ ap (λ (k : ℕ). getD rows k 0) b in
-    ap (λ (k : ℕ). record { at = k; len = getD (recordAt rows i) (3 + 2 * j) 0 }) x ∙ ap (λ (k : ℕ). record { at = getD rows (spanPlace i j) 0; len = k }) y
-
--- n spans of a record, from span j on
-spans-in-place : (rows : List ℕ) (i n j : ℕ) → j + n ≤ 19 → spansIn n j (recordAt rows i) ≡ spansAt n (spanPlace i j) rows
-unfolding spansIn spansAt
-spans-in-place rows i zero j h = refl
-spans-in-place rows i (suc n) j h =
-    let e : spanPlace i (suc j) ≡ suc (suc (spanPlace i j)) = omega arith in
-    ap (λ (s : Span). s ∷ spansIn n (suc j) (recordAt rows i)) (span-at-place rows i j (omega arith))
-    ∙ ap (λ (r : List Span). spanAt rows (spanPlace i j) ∷ r) (spans-in-place rows i n (suc j) (omega arith) ∙ ap (λ (k : ℕ). spansAt n k rows) e)
-
--- the spans of a row that points nowhere outside the text lie within it
-pub spans-inside : (t rows : List ℕ) (i n j : ℕ) → j + n ≤ 19 → inText t (recordAt rows i) ≡ true → every (within (length t)) (spansAt n (spanPlace i j) rows) ≡ true
-unfolding inText
-spans-inside t rows i n j h e =
-    let l : List ℕ = recordAt rows i in
-    let z : 0 + j ≡ j = omega arith in
-    let own : take n (drop j (spansOf l)) ≡ spansAt n (spanPlace i j) rows = spans-part l 19 j n 0 h ∙ ap (λ (k : ℕ). spansIn n k l) z ∙ spans-in-place rows i n j h in
-    ap (every (within (length t))) (sym own) ∙ every-part (within (length t)) (spansOf l) j n e
 
 -- ---- a row's lines
 
 plain-with : (k : Kind) (n : ℕ) (vs : Slots) → is k M ≡ false → rowLines (rowWith k n vs) ≡ line (bytes "row") (rowMark k) ∷ elementLines k (take (ownSpans k) vs)
 plain-with k n vs e = rw e (ap (λ (r : List Line). line (bytes "row") (rowMark k) ∷ r) (append-nil (elementLines k (take (ownSpans k) vs))))
-
--- the values of n spans of a record, from span j on
-pub part-of-row : (t rows : List ℕ) (i n j : ℕ) → j + n ≤ 19 → take n (drop j (shownAll t (spansOf (recordAt rows i)))) ≡ shownAll t (spansAt n (spanPlace i j) rows)
-part-of-row t rows i n j h =
-    let z : 0 + j ≡ j = omega arith in
-    part-shown (recordAt rows i) t 19 j n 0 h ∙ ap (λ (k : ℕ). shownAll t (spansIn n k (recordAt rows i))) z ∙ ap (shownAll t) (spans-in-place rows i n j h)
 
 -- a row that is no medication
 pub plain-is : (t rows : List ℕ) (i : ℕ) (k : Kind) (first : ℕ) → kindShown (getD (recordAt rows i) 0 0) ≡ k → is k M ≡ false → ownSpans k ≤ 19 → fieldsOf k ≡ fieldsFrom first (ownSpans k)
@@ -74,11 +40,6 @@ plain-is t rows i k first e m h f =
     ∙ plain-with k (getD l 1 0) vs m
     ∙ ap (λ (q : List Field). line (bytes "row") (rowMark k) ∷ fieldLines (path k) q (take (ownSpans k) vs)) f
     ∙ ap (λ (q : Slots). line (bytes "row") (rowMark k) ∷ fieldLines (path k) (fieldsFrom first (ownSpans k)) q) (part-of-row t rows i (ownSpans k) 0 (omega arith))
-
--- the fields of a row's elements are parts of the table
-pub row-fields : (fieldsOf S ≡ fieldsFrom 31 2) × (fieldsOf R ≡ fieldsFrom 49 2) × (fieldsOf X ≡ fieldsFrom 51 1) × (fieldsOf W ≡ fieldsFrom 47 2) × (fieldsOf unknown ≡ fieldsFrom 0 0)
-unfolding fieldsOf fieldsFrom
-row-fields = (refl, refl, refl, refl, refl)
 
 med-lines : (v : List ℕ) (vs : Slots) → elementLines M (v ∷ vs) ≡ given (bytes "MP.S.M.p") v ++ fieldLines (path M) (fieldsFrom 34 13) vs
 unfolding fieldsOf fieldsFrom

@@ -1,5 +1,3 @@
--- What the contracts of this crate cite beside paper's listing: `Written` for bytes that are written into a lent room, `Numbered` for values whose spans stand
--- among numbers, `Split` for the pages of planlist's input.
-pub mod Written
+-- What the contracts of this crate cite beside paper's listing: `Numbered` for lines of values whose spans stand among numbers, `Split` for the pages of planlist's input.
 pub mod Numbered
 pub mod Split

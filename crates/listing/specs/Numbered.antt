@@ -1,28 +1,20 @@
--- Numbered: values whose spans stand among numbers, two numbers to a span, and the lines of fields that have such values.
+-- Numbered: the line of a value that may be absent, and the lines of fields whose values are shown by spans among numbers.
 -- Assumes nothing.
 use mathlib.Core.List.{List, [], _∷_, _++_}
-use Prim.Native.Nat.{ℕ, zero, suc, _+_, _*_}
-use lib.ListN.{getD, take, drop}
+use Prim.Native.Nat.{ℕ, _+_}
+use lib.ListN.{getD}
 use Rattle.paper.specs.Lists.{bytes}
-use Rattle.paper.specs.Fields.{Field, table, edition, M, W}
-use Rattle.paper.specs.Layout.{Span, shownAll}
+use Rattle.paper.specs.Fields.{table, edition, M, W}
+use Rattle.paper.specs.Layout.{shownAll}
 use Rattle.paper.specs.Listing.{Line, line, path, fieldLines}
 use Rattle.paper.specs.Writing.{decimal}
 use Rattle.plan.specs.Numbers.{recordAt}
-use Rattle.listing.specs.Written.{given}
+use Rattle.room.specs.Numbered.{spansAt, fieldsFrom, spanPlace}
 
--- the span whose two numbers stand at places k and k + 1
-abbrev pub spanAt : List ℕ → ℕ → Span
-spanAt l k = record { at = getD l k 0; len = getD l (suc k) 0 }
-
--- n spans, the first at place k
-unfoldable pub spansAt : ℕ → ℕ → List ℕ → List Span
-spansAt zero k l = []
-spansAt (suc n) k l = spanAt l k ∷ spansAt n (suc (suc k)) l
-
--- n fields of the table, from a place on
-unfoldable pub fieldsFrom : ℕ → ℕ → List Field
-fieldsFrom first n = take n (drop first table)
+-- the line of a value, none if the value is absent
+abbrev pub given : List ℕ → List ℕ → List Line
+given k [] = []
+given k (c ∷ v) = line k (c ∷ v) ∷ []
 
 -- the lines of n fields from a place of the table on, under a path, with the values that n spans show
 abbrev pub linesOf : List ℕ → ℕ → ℕ → List ℕ → ℕ → List ℕ → List Line
@@ -33,10 +25,6 @@ linesOf path first n t k l = fieldLines path (fieldsFrom first n) (shownAll t (s
 -- the lines of MP: v, p unless it is 0, U and l, the spans of these two from place 2 of the numbers on
 abbrev pub mpLines : ℕ → List ℕ → List ℕ → List Line
 mpLines patch t l = line (bytes "MP.v") edition ∷ (given (bytes "MP.p") (decimal patch) ++ linesOf (bytes "MP.") 2 2 t 2 l)
-
--- the place of span j of row i among the numbers
-abbrev pub spanPlace : ℕ → ℕ → ℕ
-spanPlace i j = i * 48 + (2 + 2 * j)
 
 -- a row's mark, and its first n values under a path
 abbrev pub plainRow : List ℕ → List ℕ → ℕ → ℕ → List ℕ → List ℕ → ℕ → List Line

@@ -8,13 +8,15 @@ ghost use Rattle.paper.specs.Lists.{every};
 ghost use Rattle.paper.specs.Layout.{shownAll};
 ghost use Rattle.paper.specs.Listing.{print, headLines};
 ghost use Rattle.plan.specs.Numbers.{within, paperSpan, headWith};
-ghost use Rattle.listing.specs.Written.{Wrote};
-ghost use Rattle.listing.specs.Numbered.{spansAt, linesOf, mpLines};
+ghost use Rattle.room.specs.Written.{Wrote};
+ghost use Rattle.room.specs.Numbered.{spansAt};
+ghost use Rattle.listing.specs.Numbered.{linesOf, mpLines};
 use crate::lines::field_line;
 use crate::lines::number_line;
 use crate::lines::text_line;
 use plan::Span;
 use plan::head_numbers;
+use room::wide;
 
 // Where the fields of the head's elements begin in the table: U of MP, and the first ones of P, A and O.
 const MP_U: usize = 2;
@@ -24,13 +26,6 @@ const P_G: usize = 6;
 const A_LANR: usize = 14;
 
 const O_AI: usize = 24;
-
-// A number of 32 bits as one of the machine's width.
-fn wide(x: u32) -> usize
-    ensures { λ r. ⌜ r ≡ x ⌝ }
-{
-    x as usize
-}
 
 // Writes the lines of `count` fields of the table from `first` on, under a path, and returns the place behind them. Their values are what as many spans
 // show in the text, the first of which stands at place `from` of the numbers; an absent value has no line.

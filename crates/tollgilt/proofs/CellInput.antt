@@ -22,9 +22,9 @@ use Rattle.paper.proofs.Rooms.{line-length, refusal-short}
 use Rattle.paper.proofs.CellRoom.{cell-fits, left-short}
 use Rattle.markup.specs.Laid.{laid}
 use Rattle.listing.specs.Split.{toZero}
-use Rattle.listing.specs.Written.{Wrote}
+use Rattle.room.specs.Written.{Wrote}
 use Rattle.listing.proofs.Fielded.{print-append}
-use Rattle.listing.proofs.Pieces.{Going, going-fits, going-on}
+use Rattle.room.proofs.Pieces.{Going, going-fits, going-on}
 use Rattle.cell.specs.Numbered.{fieldOf}
 use Rattle.cell.specs.Answers.{sourceNumber}
 use Rattle.cell.specs.declared.answer.Source.{Source}

@@ -25,7 +25,7 @@ use Rattle.markup.specs.Laid.{laid}
 use Rattle.fields.specs.Sets.{inSet}
 use Rattle.listing.specs.Split.{toZero}
 use Rattle.listing.proofs.Fielded.{print-append}
-use Rattle.listing.proofs.Pieces.{Fits, fits-as, fits-whole}
+use Rattle.room.proofs.Pieces.{Fits, fits-as, fits-whole}
 use Rattle.reader.specs.Answers as Read
 use Rattle.tollgilt.specs.Find.{Promised, answered}
 use Rattle.tollgilt.specs.Printed.{Answer, refusal, prints, rowLines, heldLines, foundLines, foundIn, isAsked, asks, numberAsked, behindNumber, AsksFor, Asks, asked, planfind, foundRoom, findAnswer, lengthOf, lengthTold, Prints}

@@ -11,7 +11,7 @@ use Rattle.paper.specs.Lists.{concat}
 use Rattle.paper.specs.Calls.{pagesAt}
 use Rattle.markup.specs.Laid.{laid}
 use Rattle.markup.proofs.LaidLaws.{Laying, start, told, next-piece, next-byte, all-laid}
-use Rattle.listing.proofs.Pieces.{fits, wrote, room-kept, both-written, written-whole}
+use Rattle.room.proofs.Pieces.{fits, wrote, room-kept, both-written, written-whole}
 use Rattle.tollgilt.specs.Fresh.{behind, total}
 use Rattle.tollgilt.specs.Printed.{zeroThen, separated}
 

@@ -9,7 +9,7 @@ ghost use Rattle.paper.specs.Lists.{bytes};
 ghost use Rattle.paper.specs.Listing.{line, numeral, print, parted};
 ghost use Rattle.paper.specs.Reading.{read};
 ghost use Rattle.markup.specs.Laid.{laid};
-ghost use Rattle.listing.specs.Written.{Wrote};
+ghost use Rattle.room.specs.Written.{Wrote};
 ghost use Rattle.tollgilt.specs.Fresh.{bytesTold, pagesIn};
 ghost use Rattle.tollgilt.specs.Printed.{separated, heldLines, foundIn, asked, shownLines, cellPrinted, cellBehind, Asks, listAnswer, freshAnswer, findAnswer, cellAnswer, lengthOf, Prints};
 use crate::cells::CellShown;

@@ -29,8 +29,8 @@ use Rattle.plan.specs.declared.Dose.the-variants.{Scheme, Free, Unstated}
 use Rattle.plan.proofs.Parts.{kind-is}
 use Rattle.plan.proofs.Doses.{shows, each-span, dose-is}
 use Rattle.sound.specs.Sound.{recordSound}
-use Rattle.listing.specs.Numbered.{spanAt, spansAt, fieldsFrom, spanPlace}
-use Rattle.listing.proofs.Rowed.{part-of-row, spans-inside, row-fields}
+use Rattle.room.specs.Numbered.{spanAt, spansAt, fieldsFrom, spanPlace}
+use Rattle.room.proofs.Parts.{part-of-row, spans-inside, row-fields}
 use Rattle.writer.specs.Spelling.{rowText}
 use Rattle.writer.specs.Tags.{attribute, fieldsText, tagText, doseText, doseWithin, substanceText, endText, medicationText}
 use Rattle.writer.proofs.Spelled.{attrs-step, attrs-are, fields-parted, key-name, span-of, spans-parted}

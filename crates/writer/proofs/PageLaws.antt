@@ -13,8 +13,8 @@ use Rattle.paper.specs.Writing.{page, pages}
 use Rattle.plan.specs.Numbers.{showRows, padded}
 use Rattle.plan.proofs.Shown.{rows-shown}
 use Rattle.markup.specs.Laid.{laid}
-use Rattle.listing.specs.Written.{Wrote}
-use Rattle.listing.proofs.Pieces.{Going, going-start, going-fits, going-on, going-done, fits-whole}
+use Rattle.room.specs.Written.{Wrote}
+use Rattle.room.proofs.Pieces.{Going, going-start, going-fits, going-on, going-done, fits-whole}
 use Rattle.writer.specs.Spelling.{rowsBetween}
 use Rattle.writer.specs.Tags.{rowsPlaced}
 use Rattle.writer.specs.Cutting.{Rising, parted}

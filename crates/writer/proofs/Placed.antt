@@ -14,7 +14,7 @@ use Rattle.paper.specs.Writing.{rowSlots, opening, closing, bodyText, heading, 
 use Rattle.markup.proofs.WalkLaws.{take-drop}
 use Rattle.plan.specs.Numbers.{showRows}
 use Rattle.plan.proofs.Shown.{rows-shown}
-use Rattle.listing.specs.Written.{Wrote}
+use Rattle.room.specs.Written.{Wrote}
 use Rattle.writer.specs.Spelling.{rowText, headText, rowsBetween}
 use Rattle.writer.specs.Tags.{gapText, placedText, rowsPlaced, rowsPage, Opened}
 use Rattle.writer.specs.Cutting.{measureOf, sizeIn, sizesIn}

@@ -23,10 +23,10 @@ use Rattle.fields.specs.Columns.{keyColumn}
 use Rattle.fields.proofs.ColumnLaws.{letters-at, key-length}
 use Rattle.fields.proofs.TableLaws.{letters-back}
 use Rattle.plan.specs.Numbers.{within}
-use Rattle.listing.specs.Written.{Wrote}
-use Rattle.listing.specs.Numbered.{spanAt, spansAt, fieldsFrom}
-use Rattle.listing.proofs.Pieces.{Fits, Going, going-fits, going-on, going-done, byte-written}
-use Rattle.listing.proofs.Fielded.{span-inside}
+use Rattle.room.specs.Written.{Wrote}
+use Rattle.room.specs.Numbered.{spanAt, spansAt, fieldsFrom}
+use Rattle.room.proofs.Pieces.{Fits, Going, going-fits, going-on, going-done, byte-written}
+use Rattle.room.proofs.Parts.{span-inside}
 use Rattle.writer.specs.Tags.{quoted, attribute, fieldsText}
 
 -- ---- pieces

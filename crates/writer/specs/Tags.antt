@@ -14,7 +14,7 @@ use Rattle.plan.specs.declared.Dose as Code
 use Rattle.plan.specs.declared.Dose.the-variants.{Scheme, Free, Unstated}
 use Rattle.plan.specs.Numbers.{recordAt, paperSpan, absent, within}
 use Rattle.plan.specs.Records.{doseIn, paperDose}
-use Rattle.listing.specs.Numbered.{spanAt, spansAt, fieldsFrom, spanPlace}
+use Rattle.room.specs.Numbered.{spanAt, spansAt, fieldsFrom, spanPlace}
 use Rattle.writer.specs.Spelling.{rowText}
 
 -- a name and what stands in quotes behind it

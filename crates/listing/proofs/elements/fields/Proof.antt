@@ -1,7 +1,7 @@
 -- `listing::elements::fields` meets its contract: what is to be printed is what is printed and the lines of the fields that are left.
 -- Assumes nothing.
 use Prim.Native.Nat.{_-_}
-use Rattle.listing.proofs.Pieces.{going-done}
+use Rattle.room.proofs.Pieces.{going-done}
 use Rattle.listing.proofs.Fielded.{Fielding, fields-start, fields-asked, fields-turn, no-field}
 use borrow.Author.Needs.{needs}
 use Rattle.listing.proofs.elements.fields.Statement.{statement}

@@ -10,10 +10,12 @@ use mathlib.Core.Bool.{true}
 use Rattle.paper.specs.Layout.{shownAll}
 use Rattle.paper.specs.Listing.{print, headLines}
 use Rattle.plan.specs.Numbers.{within, paperSpan, headWith}
-use Rattle.listing.specs.Numbered.{spansAt, linesOf, mpLines}
-use Rattle.listing.proofs.Pieces.{Fits, fits-as, wrote-as}
+use Rattle.room.specs.Numbered.{spansAt}
+use Rattle.listing.specs.Numbered.{linesOf, mpLines}
+use Rattle.room.proofs.Pieces.{Fits, fits-as, wrote-as}
 use Rattle.listing.proofs.Fielded.{first-lines, other-lines, lines-written}
-use Rattle.listing.proofs.Flat.{head-by, spans-long, part-every}
+use Rattle.listing.proofs.Flat.{head-by, spans-long}
+use Rattle.room.proofs.Parts.{part-every}
 use borrow.Author.Needs.{needs}
 use Rattle.listing.proofs.elements.head_lines.Statement.{statement}
 use Rattle.listing.proofs.elements.head_lines.Tie as tie

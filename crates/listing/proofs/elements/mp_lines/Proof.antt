@@ -5,9 +5,8 @@ use Rattle.paper.specs.Lists.{bytes}
 use Rattle.paper.specs.Fields.{edition}
 use Rattle.paper.specs.Writing.{decimal}
 use Rattle.paper.specs.Listing.{line, print}
-use Rattle.listing.specs.Written.{given}
-use Rattle.listing.specs.Numbered.{linesOf, mpLines}
-use Rattle.listing.proofs.Pieces.{Fits}
+use Rattle.listing.specs.Numbered.{given, linesOf, mpLines}
+use Rattle.room.proofs.Pieces.{Fits}
 use Rattle.listing.proofs.Fielded.{first-lines, other-lines, lines-written}
 use borrow.Author.Needs.{needs}
 use Rattle.listing.proofs.elements.mp_lines.Statement.{statement}

@@ -5,8 +5,9 @@ use Prim.Native.Nat.{_+_}
 use native.Mathlib.Omega.{arith}
 use lib.ListN.{set}
 use Rattle.paper.specs.Listing.{line, print, numeral}
-use Rattle.listing.specs.Written.{Wrote}
-use Rattle.listing.proofs.Pieces.{Fits, wrote, first-fits, room-kept, equals-fits, value-fits, end-fits, line-written}
+use Rattle.room.specs.Written.{Wrote}
+use Rattle.room.proofs.Pieces.{Fits, wrote, first-fits, room-kept}
+use Rattle.listing.proofs.Pieces.{equals-fits, value-fits, end-fits, line-written}
 use borrow.Author.Needs.{needs}
 use Rattle.listing.proofs.lines.count_line.Statement.{statement}
 use Rattle.listing.proofs.lines.count_line.Tie as tie

@@ -3,8 +3,9 @@
 use Prim.Native.Nat.{_+_, _≤_}
 use native.Mathlib.Omega.{arith}
 use lib.ListN.{length}
-use Rattle.listing.proofs.Pieces.{none-written}
-use Rattle.listing.proofs.Fielded.{span-inside, present-line}
+use Rattle.room.proofs.Pieces.{none-written}
+use Rattle.room.proofs.Parts.{span-inside}
+use Rattle.listing.proofs.Fielded.{present-line}
 use borrow.Author.Needs.{needs}
 use Rattle.listing.proofs.lines.field_line.Statement.{statement}
 use Rattle.listing.proofs.lines.field_line.Tie as tie

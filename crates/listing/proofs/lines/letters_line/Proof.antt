@@ -6,8 +6,9 @@ use native.Mathlib.Omega.{arith}
 use lib.ListN.{length, set, length-append}
 use Rattle.paper.specs.Listing.{line, print}
 use Rattle.fields.specs.Places.{nameOf}
-use Rattle.listing.specs.Written.{Wrote}
-use Rattle.listing.proofs.Pieces.{Fits, wrote, first-fits, second-fits, both-written, room-kept, equals-fits, value-fits, end-fits, line-written}
+use Rattle.room.specs.Written.{Wrote}
+use Rattle.room.proofs.Pieces.{Fits, wrote, first-fits, second-fits, both-written, room-kept}
+use Rattle.listing.proofs.Pieces.{equals-fits, value-fits, end-fits, line-written}
 use Rattle.listing.proofs.lines.letters_line.Statement.{statement}
 use Rattle.listing.proofs.lines.letters_line.Tie as tie
 

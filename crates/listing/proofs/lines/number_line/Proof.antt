@@ -7,8 +7,10 @@ use native.Mathlib.Omega.{arith}
 use lib.ListN.{length, set}
 use Rattle.paper.specs.Listing.{line, print}
 use Rattle.paper.specs.Writing.{decimal}
-use Rattle.listing.specs.Written.{Wrote, given}
-use Rattle.listing.proofs.Pieces.{Fits, wrote, none-written, first-fits, room-kept, equals-fits, value-fits, end-fits, line-written}
+use Rattle.room.specs.Written.{Wrote}
+use Rattle.listing.specs.Numbered.{given}
+use Rattle.room.proofs.Pieces.{Fits, wrote, none-written, first-fits, room-kept}
+use Rattle.listing.proofs.Pieces.{equals-fits, value-fits, end-fits, line-written}
 use Rattle.listing.proofs.Digits.{decimal-given}
 use borrow.Author.Needs.{needs}
 use Rattle.listing.proofs.lines.number_line.Statement.{statement}

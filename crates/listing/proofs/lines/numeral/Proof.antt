@@ -6,8 +6,8 @@ use Prim.Native.Nat.{_+_, _/_, _%_}
 use native.Mathlib.Omega.{arith}
 use lib.ListN.{length, set}
 use Rattle.paper.specs.Writing.{decimal}
-use Rattle.listing.specs.Written.{Wrote}
-use Rattle.listing.proofs.Pieces.{Fits, wrote, first-fits, second-fits, both-written, byte-written}
+use Rattle.room.specs.Written.{Wrote}
+use Rattle.room.proofs.Pieces.{Fits, wrote, first-fits, second-fits, both-written, byte-written}
 use Rattle.listing.proofs.Digits.{one-digit, more-digits}
 use borrow.Author.Needs.{needs}
 use Rattle.listing.proofs.lines.numeral.Statement.{statement}

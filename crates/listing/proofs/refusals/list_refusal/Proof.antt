@@ -3,7 +3,7 @@
 use mathlib.Core.List.{[], _∷_, _++_}
 use Rattle.paper.specs.Lists.{bytes}
 use Rattle.paper.specs.Listing.{line, numeral, print, refusalLines}
-use Rattle.listing.proofs.Pieces.{Fits, fits-whole, written-whole}
+use Rattle.room.proofs.Pieces.{Fits, fits-whole, written-whole}
 use Rattle.listing.proofs.Fielded.{first-lines, other-lines, lines-written}
 use borrow.Author.Needs.{needs}
 use Rattle.listing.proofs.refusals.list_refusal.Statement.{statement}

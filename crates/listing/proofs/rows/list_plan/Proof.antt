@@ -3,7 +3,7 @@
 use mathlib.Core.List.{_++_}
 use Rattle.paper.specs.Listing.{print}
 use Rattle.plan.specs.Numbers.{headInText}
-use Rattle.listing.proofs.Pieces.{Fits, fits-as, fits-whole, wrote-as, written-whole}
+use Rattle.room.proofs.Pieces.{Fits, fits-as, fits-whole, wrote-as, written-whole}
 use Rattle.listing.proofs.Fielded.{first-lines, other-lines, lines-written}
 use Rattle.listing.proofs.Whole.{headPart, rowsPart, countPart, listing-is}
 use borrow.Author.Needs.{needs}

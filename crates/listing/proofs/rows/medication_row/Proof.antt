@@ -8,11 +8,12 @@ use Rattle.paper.specs.Fields.{M}
 use Rattle.paper.specs.Writing.{decimal}
 use Rattle.paper.specs.Listing.{line, path, print}
 use Rattle.plan.specs.Numbers.{recordAt}
-use Rattle.listing.specs.Written.{Wrote, given}
-use Rattle.listing.specs.Numbered.{linesOf, spanPlace, substanceLines}
-use Rattle.listing.proofs.Pieces.{Fits}
+use Rattle.room.specs.Written.{Wrote}
+use Rattle.listing.specs.Numbered.{given, linesOf, substanceLines}
+use Rattle.room.specs.Numbered.{spanPlace}
+use Rattle.room.proofs.Pieces.{Fits}
 use Rattle.listing.proofs.Fielded.{first-lines, other-lines, lines-written}
-use Rattle.listing.proofs.Rowed.{spans-inside}
+use Rattle.room.proofs.Parts.{spans-inside}
 use borrow.Author.Needs.{needs}
 use Rattle.listing.proofs.rows.medication_row.Statement.{statement}
 use Rattle.listing.proofs.rows.medication_row.Tie as tie

@@ -8,9 +8,10 @@ use Rattle.paper.specs.Listing.{path, rowMark, rowLines, print}
 use Rattle.plan.specs.Numbers.{recordAt, showRow}
 use Rattle.plan.specs.Records.{paperKind}
 use Rattle.listing.specs.Numbered.{plainRow, medicationRow}
-use Rattle.listing.proofs.Pieces.{Fits, fits-as, wrote-as}
+use Rattle.room.proofs.Pieces.{Fits, fits-as, wrote-as}
 use Rattle.plan.proofs.Parts.{kind-is}
-use Rattle.listing.proofs.Rowed.{plain-is, medication-is, row-fields}
+use Rattle.listing.proofs.Rowed.{plain-is, medication-is}
+use Rattle.room.proofs.Parts.{row-fields}
 use borrow.Author.Needs.{needs}
 use Rattle.listing.proofs.rows.row_lines.Statement.{statement}
 use Rattle.listing.proofs.rows.row_lines.Tie as tie

@@ -4,7 +4,7 @@ use Prim.Native.Nat.{_+_, _-_, _≤_}
 use native.Mathlib.Omega.{arith}
 use Rattle.paper.specs.Listing.{print, rowLines}
 use Rattle.plan.specs.Numbers.{recordAt, showRow}
-use Rattle.listing.proofs.Pieces.{Going, going-start, going-fits, going-on, going-done}
+use Rattle.room.proofs.Pieces.{Going, going-start, going-fits, going-on, going-done}
 use Rattle.listing.proofs.Rowed.{rowsLeft, next-row, no-row, row-inside}
 use borrow.Author.Needs.{needs}
 use Rattle.listing.proofs.rows.rows_lines.Statement.{statement}

@@ -7,7 +7,7 @@ use lib.Seq.{length-take-le}
 use denote.Ref.{now}
 use Rattle.paper.specs.Lists.{bytes}
 use Rattle.paper.specs.Listing.{Line, line, numeral, print}
-use Rattle.listing.proofs.Pieces.{Fits, fits-as, fits-whole, Going, going-start, going-done, wrote-as, written-whole}
+use Rattle.room.proofs.Pieces.{Fits, fits-as, fits-whole, Going, going-start, going-done, wrote-as, written-whole}
 use Rattle.tollgilt.specs.Printed.{shownLines}
 use Rattle.tollgilt.proofs.CellInput.{fiveLines, five-shown, next-fits, next-on}
 use borrow.Author.Needs.{needs}

@@ -7,7 +7,7 @@ use lib.ListN.{take, drop, getD}
 use denote.Ref.{now}
 use Rattle.paper.specs.Lists.{bytes}
 use Rattle.paper.specs.Listing.{line, numeral, print}
-use Rattle.listing.proofs.Pieces.{Fits, wrote-as, first-fits, second-fits, both-written, Going, going-start, going-fits, going-on, going-done, written-whole}
+use Rattle.room.proofs.Pieces.{Fits, wrote-as, first-fits, second-fits, both-written, Going, going-start, going-fits, going-on, going-done, written-whole}
 use Rattle.tollgilt.specs.Printed.{rowLines}
 use Rattle.tollgilt.proofs.FindInput.{count-first, all-fit, next-line, no-line}
 use borrow.Author.Needs.{needs}

@@ -15,8 +15,8 @@ use Rattle.plan.specs.declared.Span.{Span}
 use Rattle.plan.specs.declared.Times.{Times}
 use Rattle.plan.specs.declared.Dose.{Dose}
 use Rattle.plan.specs.declared.Dose.the-variants.{Scheme}
-use Rattle.listing.specs.Written.{Wrote}
-use Rattle.listing.proofs.Pieces.{Fits, Going, fits, fits-as, wrote-as, none-written, going-start, going-fits, going-on}
+use Rattle.room.specs.Written.{Wrote}
+use Rattle.room.proofs.Pieces.{Fits, Going, fits, fits-as, wrote-as, none-written, going-start, going-fits, going-on}
 use Rattle.writer.specs.Tags.{attribute, doseText, doseWithin}
 use Rattle.writer.proofs.Spelled.{keys-long, last-fits, last-on}
 use Rattle.writer.proofs.Bodied.{dose-names, times-inside}

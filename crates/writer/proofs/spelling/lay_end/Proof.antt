@@ -6,8 +6,8 @@ use Prim.Native.Nat.{ℕ, _+_}
 use native.Mathlib.Omega.{arith}
 use lib.ListN.{set}
 use Rattle.paper.specs.Lists.{bytes}
-use Rattle.listing.specs.Written.{Wrote}
-use Rattle.listing.proofs.Pieces.{Fits, Going, fits, fits-as, wrote, wrote-as, going-start, going-fits, going-on, room-kept}
+use Rattle.room.specs.Written.{Wrote}
+use Rattle.room.proofs.Pieces.{Fits, Going, fits, fits-as, wrote, wrote-as, going-start, going-fits, going-on, room-kept}
 use Rattle.writer.specs.Tags.{substanceText}
 use Rattle.writer.proofs.Spelled.{byte-fits, byte-on, last-fits, last-on}
 use Rattle.writer.proofs.Bodied.{end-none, end-some, three-parts}

@@ -6,7 +6,7 @@ use Prim.Native.Nat.{ℕ}
 use native.Mathlib.Omega.{arith}
 use lib.ListN.{length}
 use Rattle.plan.specs.Numbers.{paperSpan, showHead}
-use Rattle.listing.proofs.Pieces.{Fits, Going, fits, fits-as, wrote, wrote-as, going-start, going-fits, going-on}
+use Rattle.room.proofs.Pieces.{Fits, Going, fits, fits-as, wrote, wrote-as, going-start, going-fits, going-on}
 use Rattle.writer.specs.Spelling.{headText}
 use Rattle.writer.specs.Tags.{startText}
 use Rattle.writer.proofs.Spelled.{last-fits, last-on}

@@ -2,7 +2,7 @@
 -- Assumes nothing.
 use mathlib.Core.Path.{_≡_}
 use Rattle.paper.specs.Lists.{bytes}
-use Rattle.listing.proofs.Pieces.{wrote, wrote-as, none-written}
+use Rattle.room.proofs.Pieces.{wrote, wrote-as, none-written}
 use Rattle.writer.specs.Tags.{gapText}
 use borrow.Author.Needs.{needs}
 use Rattle.writer.proofs.spelling.lay_gap.Statement.{statement}

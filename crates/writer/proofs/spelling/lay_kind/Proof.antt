@@ -8,9 +8,9 @@ use native.Mathlib.Omega.{arith}
 use Rattle.paper.specs.Lists.{bytes}
 use Rattle.plan.specs.Numbers.{recordAt, showRow, inText}
 use Rattle.plan.specs.Records.{paperKind}
-use Rattle.listing.specs.Numbered.{spanPlace}
-use Rattle.listing.proofs.Pieces.{Fits, fits, fits-as, wrote-as}
-use Rattle.listing.proofs.Rowed.{spans-inside}
+use Rattle.room.specs.Numbered.{spanPlace}
+use Rattle.room.proofs.Pieces.{Fits, fits, fits-as, wrote-as}
+use Rattle.room.proofs.Parts.{spans-inside}
 use Rattle.writer.specs.Spelling.{rowText}
 use Rattle.writer.specs.Tags.{tagText, medicationText}
 use Rattle.writer.proofs.Bodied.{sound-parts, unknown-never, heading-is, medication-is, recipe-is, note-is}

@@ -3,7 +3,7 @@
 use mathlib.Core.Path.{_≡_, sym, _∙_}
 use native.Mathlib.Omega.{arith}
 use Rattle.paper.specs.Lists.{bytes}
-use Rattle.listing.proofs.Pieces.{Fits, fits, fits-as, wrote-as, none-written}
+use Rattle.room.proofs.Pieces.{Fits, fits, fits-as, wrote-as, none-written}
 use Rattle.writer.specs.Tags.{tagText, measuresPart}
 use Rattle.writer.proofs.Paged.{measures-by}
 use borrow.Author.Needs.{needs}

@@ -12,10 +12,10 @@ use Rattle.plan.specs.Numbers.{recordAt}
 use Rattle.plan.specs.Records.{doseIn, paperDose, rowIn}
 use Rattle.plan.specs.declared.Dose.{Dose}
 use Rattle.plan.specs.declared.Row.{Row}
-use Rattle.listing.specs.Written.{Wrote}
-use Rattle.listing.specs.Numbered.{spanPlace}
-use Rattle.listing.proofs.Pieces.{Fits, Going, fits, wrote, wrote-as, going-start, going-fits, going-on, room-kept}
-use Rattle.listing.proofs.Rowed.{spans-inside}
+use Rattle.room.specs.Written.{Wrote}
+use Rattle.room.specs.Numbered.{spanPlace}
+use Rattle.room.proofs.Pieces.{Fits, Going, fits, wrote, wrote-as, going-start, going-fits, going-on, room-kept}
+use Rattle.room.proofs.Parts.{spans-inside}
 use Rattle.writer.specs.Tags.{attribute, fieldsText, doseText, doseWithin, endText, medicationText}
 use Rattle.writer.proofs.Spelled.{last-fits, last-on}
 use Rattle.writer.proofs.Bodied.{dose-inside}

@@ -4,7 +4,7 @@ use mathlib.Core.Path.{refl}
 use mathlib.Core.List.{List, _++_}
 use Prim.Native.Nat.{ℕ}
 use Rattle.plan.specs.Numbers.{showHead}
-use Rattle.listing.proofs.Pieces.{Fits, Going, fits, going-start, going-fits, going-on}
+use Rattle.room.proofs.Pieces.{Fits, Going, fits, going-start, going-fits, going-on}
 use Rattle.writer.specs.Spelling.{headText}
 use Rattle.writer.specs.Tags.{rowsPage}
 use Rattle.writer.proofs.Spelled.{last-fits, last-on}

@@ -8,8 +8,8 @@ use native.Mathlib.Omega.{arith}
 use lib.ListN.{length}
 use Rattle.paper.specs.Lists.{bytes, every}
 use Rattle.plan.specs.Numbers.{paperSpan, showHead, within}
-use Rattle.listing.specs.Numbered.{spansAt}
-use Rattle.listing.proofs.Pieces.{Fits, Going, fits, fits-as, wrote-as, going-start, going-fits, going-on}
+use Rattle.room.specs.Numbered.{spansAt}
+use Rattle.room.proofs.Pieces.{Fits, Going, fits, fits-as, wrote-as, going-start, going-fits, going-on}
 use Rattle.writer.specs.Spelling.{peopleText}
 use Rattle.writer.specs.Tags.{tagText, measuresPart}
 use Rattle.writer.proofs.Spelled.{last-fits, last-on}

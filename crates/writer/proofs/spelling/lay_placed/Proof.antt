@@ -7,7 +7,7 @@ use Rattle.paper.specs.Fields as Paper
 use Rattle.paper.specs.Writing.{heading}
 use Rattle.plan.specs.Numbers.{recordAt, showRow}
 use Rattle.plan.specs.Records.{paperKind}
-use Rattle.listing.proofs.Pieces.{Fits, Going, fits, wrote-as, going-start, going-fits, going-on}
+use Rattle.room.proofs.Pieces.{Fits, Going, fits, wrote-as, going-start, going-fits, going-on}
 use Rattle.writer.specs.Spelling.{rowText}
 use Rattle.writer.specs.Tags.{gapText, placedText}
 use Rattle.writer.proofs.Spelled.{last-fits, last-on}

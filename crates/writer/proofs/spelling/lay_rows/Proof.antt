@@ -8,7 +8,7 @@ use native.Mathlib.Omega.{arith}
 use lib.ListN.{length, take, drop, length-drop}
 use lib.Seq.{take-all}
 use Rattle.paper.specs.Lists.{bytes}
-use Rattle.listing.proofs.Pieces.{Fits, Going, fits, fits-as, wrote, wrote-as, going-start, going-fits, going-on}
+use Rattle.room.proofs.Pieces.{Fits, Going, fits, fits-as, wrote, wrote-as, going-start, going-fits, going-on}
 use Rattle.writer.specs.Tags.{rowsPage, Opened}
 use Rattle.writer.proofs.Spelled.{last-fits, last-on}
 use borrow.Author.Needs.{needs}

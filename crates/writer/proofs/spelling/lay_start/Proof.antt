@@ -5,7 +5,7 @@ use mathlib.Core.List.{List, [], _∷_, _++_}
 use Prim.Native.Nat.{ℕ, _+_}
 use Rattle.paper.specs.Lists.{bytes}
 use Rattle.paper.specs.Writing.{decimal}
-use Rattle.listing.proofs.Pieces.{Fits, Going, fits, wrote, going-start, going-fits, going-on}
+use Rattle.room.proofs.Pieces.{Fits, Going, fits, wrote, going-start, going-fits, going-on}
 use Rattle.writer.specs.Tags.{attribute, fieldsText, startText}
 use Rattle.writer.proofs.Spelled.{last-fits, last-on}
 use borrow.Author.Needs.{needs}

@@ -2,7 +2,7 @@
 -- Assumes nothing.
 use native.Mathlib.Omega.{arith}
 use Rattle.paper.specs.Lists.{bytes}
-use Rattle.listing.proofs.Pieces.{Fits, fits, fits-as, wrote-as, none-written}
+use Rattle.room.proofs.Pieces.{Fits, fits, fits-as, wrote-as, none-written}
 use Rattle.writer.specs.Tags.{tagText}
 use Rattle.writer.proofs.Bodied.{substance-none, substance-some}
 use borrow.Author.Needs.{needs}

@@ -10,8 +10,8 @@ use lib.Seq.{slice}
 use Rattle.paper.specs.Lists.{bytes}
 use Rattle.paper.specs.Values.{escape}
 use Rattle.fields.specs.Places.{nameOf}
-use Rattle.listing.specs.Written.{Wrote}
-use Rattle.listing.proofs.Pieces.{Fits, Going, wrote, going-start, going-fits, going-on, going-done, room-kept}
+use Rattle.room.specs.Written.{Wrote}
+use Rattle.room.proofs.Pieces.{Fits, Going, wrote, going-start, going-fits, going-on, going-done, room-kept}
 use Rattle.writer.specs.Tags.{quoted}
 use Rattle.writer.proofs.Spelled.{byte-fits, byte-on}
 use borrow.Author.Needs.{needs}

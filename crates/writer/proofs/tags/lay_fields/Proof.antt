@@ -5,7 +5,7 @@ use native.Mathlib.Omega.{arith}
 use lib.ListN.{getD}
 use Rattle.paper.specs.Layout.{shown}
 use Rattle.fields.specs.Places.{nameOf}
-use Rattle.listing.proofs.Pieces.{Going, going-start, going-fits, going-on, going-done}
+use Rattle.room.proofs.Pieces.{Going, going-start, going-fits, going-on, going-done}
 use Rattle.writer.specs.Tags.{attribute, fieldsText}
 use Rattle.writer.proofs.Spelled.{going-as, fieldsLeft, fields-all, no-field, keys-long, spanOf, field-next, field-inside}
 use borrow.Author.Needs.{needs}

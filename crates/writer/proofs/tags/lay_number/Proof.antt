@@ -7,8 +7,8 @@ use native.Mathlib.Omega.{arith}
 use lib.ListN.{set}
 use Rattle.paper.specs.Lists.{bytes}
 use Rattle.paper.specs.Writing.{decimal}
-use Rattle.listing.specs.Written.{Wrote}
-use Rattle.listing.proofs.Pieces.{Fits, Going, wrote, none-written, going-start, going-fits, going-on, going-done, fits-as, room-kept}
+use Rattle.room.specs.Written.{Wrote}
+use Rattle.room.proofs.Pieces.{Fits, Going, wrote, none-written, going-start, going-fits, going-on, going-done, fits-as, room-kept}
 use Rattle.writer.specs.Tags.{quoted, attribute}
 use Rattle.writer.proofs.Spelled.{decimal-quoted, byte-fits, byte-on}
 use borrow.Author.Needs.{needs}

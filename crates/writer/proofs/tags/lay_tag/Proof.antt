@@ -2,7 +2,7 @@
 -- Assumes nothing.
 use mathlib.Core.Path.{refl}
 use mathlib.Core.List.{_++_}
-use Rattle.listing.proofs.Pieces.{Fits, Going, wrote, going-start, going-fits, going-on}
+use Rattle.room.proofs.Pieces.{Fits, Going, wrote, going-start, going-fits, going-on}
 use Rattle.writer.specs.Tags.{fieldsText, tagText}
 use Rattle.writer.proofs.Spelled.{last-fits, last-on}
 use borrow.Author.Needs.{needs}

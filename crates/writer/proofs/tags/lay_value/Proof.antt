@@ -10,7 +10,7 @@ use lib.Seq.{slice}
 use borrow.Author.Needs.{needs}
 use Rattle.paper.specs.Values.{escape}
 use Rattle.markup.proofs.WalkLaws.{take-drop}
-use Rattle.listing.proofs.Pieces.{wrote, wrote-as}
+use Rattle.room.proofs.Pieces.{wrote, wrote-as}
 use Rattle.writer.proofs.tags.lay_value.Statement.{statement}
 use Rattle.writer.proofs.tags.lay_value.Tie as tie
 

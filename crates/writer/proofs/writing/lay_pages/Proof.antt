@@ -15,7 +15,7 @@ use Rattle.plan.specs.Numbers.{recordAt, kindShown, showRow, showRows, showHead
 use Rattle.plan.specs.Records.{paperKind, codeKind}
 use Rattle.plan.proofs.Shown.{rows-shown}
 use Rattle.sound.proofs.SoundLaws.{head-shown}
-use Rattle.listing.proofs.Pieces.{wrote-as}
+use Rattle.room.proofs.Pieces.{wrote-as}
 use Rattle.writer.specs.Spelling.{headText, rowsBetween}
 use Rattle.writer.specs.Tags.{rowsPlaced, rowsPage, Opened}
 use Rattle.writer.proofs.MeasureLaws.{people-short, heading-told}
