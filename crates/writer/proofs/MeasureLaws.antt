@@ -127,7 +127,7 @@ page-short h e =
     )
 
 -- P, A and O of a sound head
-pub people-short : (h : Head) → soundHead h ≡ true → length (peopleText h) ≤ 8192
+pub people-short : (h : Head) → soundHead h ≡ true → length (peopleText h) ≤ 4096
 people-short h e =
     let H = head-sound h e in
     let o : List ℕ = measuresText (h .measures) [] in

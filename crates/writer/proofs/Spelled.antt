@@ -7,17 +7,18 @@ use Prim.Native.Nat.{ℕ, zero, suc, _+_, _*_, _-_, _/_, _%_, _≤_, _<_}
 use native.Mathlib.Nat.{zero-add, not-suc-le-zero, le-of-suc-le-suc}
 use native.Mathlib.Numerals.{add-one}
 use native.Mathlib.Omega.{arith}
-use lib.Dec.{ltb}
+use lib.Dec.{eqb, ltb}
 use lib.ListN.{length, take, drop, getD, set, length-take, length-drop, length-append}
-use lib.Seq.{slice, drop-cons}
+use lib.Seq.{slice, drop-cons, drop-drop, take-at, length-take-le, drop-append-add}
 use borrow.Author.Tests.{ne-eqb, ltb-true}
-use Rattle.paper.specs.Lists.{if, every}
+use Rattle.paper.specs.Lists.{bytes, if, every}
 use Rattle.paper.specs.Fields.{Field, table}
 use Rattle.paper.specs.Values.{esc, escape}
 use Rattle.paper.specs.Plan.{Slots}
 use Rattle.paper.specs.Layout.{Span, shown, shownAll}
 use Rattle.paper.specs.Writing.{attrsOf, printAttrs, digitsOf, decimal}
 use Rattle.paper.proofs.Small.{both}
+use Rattle.markup.specs.Laid.{laid}
 use Rattle.fields.specs.Places.{noField, fieldAt, nameOf}
 use Rattle.fields.specs.Columns.{keyColumn}
 use Rattle.fields.proofs.ColumnLaws.{letters-at, key-length}
@@ -76,6 +77,37 @@ span-quoted n t s z w =
     let i = span-inside (length t) (s .at) (s .len) z w in
     let l : length (take (s .len) (drop (s .at) t)) ≡ s .len = simp (length-take, length-drop) (omega arith) in
     attribute-some n (shown t s) (omega arith) ∙ ap (λ (v : List ℕ). quoted n (escape v)) (sym (part-is (s .at) (s .len) t))
+
+-- a value is spelled in no fewer bytes than it has
+pub escape-long : (v : List ℕ) → length v ≤ length (escape v)
+escape-long [] = omega arith
+escape-long (c ∷ v) = omega (arith, length-append (esc c) (escape v), some (eqb c 38) (eqb c 60) (eqb c 34), escape-long v)
+  where
+    some : (x y z : Bool) → 1 ≤ length (if x (bytes "&amp;") (if y (bytes "&lt;") (if z (bytes "&quot;") (c ∷ []))))
+    some true y z = omega arith
+    some false true z = omega arith
+    some false false true = omega arith
+    some false false false = omega arith
+
+-- bytes laid over others that are no longer
+pub laid-over : (o s e : List ℕ) (a : ℕ) → a + length e ≤ length o → length s ≤ length e → laid (laid o a s) a e ≡ laid o a e
+laid-over o s e a h k =
+    let t : List ℕ = take a o in
+    let z : List ℕ = drop (a + length s) o in
+    let l : length t ≡ a = length-take-le a o (omega arith) in
+    let m : ℕ = length e - length s in
+    let front : take a (t ++ (s ++ z)) ≡ t = take-at t (s ++ z) a l in
+    let i : a + length e ≡ length t + length e = omega (arith, l) in
+    let j : length e ≡ length s + m = omega arith in
+    let n : a + length s + m ≡ a + length e = omega arith in
+    let back : drop (a + length e) (t ++ (s ++ z)) ≡ drop (a + length e) o =
+    ap (λ (x : ℕ). drop x (t ++ (s ++ z))) i
+    ∙ drop-append-add t (s ++ z) (length e)
+    ∙ ap (λ (x : ℕ). drop x (s ++ z)) j
+    ∙ drop-append-add s z m
+    ∙ drop-drop m (a + length s) o
+    ∙ ap (λ (x : ℕ). drop x o) n in
+    ap (λ (x : List ℕ). x ++ (e ++ drop (a + length e) (t ++ (s ++ z)))) front ∙ ap (λ (x : List ℕ). t ++ (e ++ x)) back
 
 -- a digit is spelled as it is
 pub esc-digit : (c : ℕ) → 48 ≤ c → c ≤ 57 → esc c ≡ c ∷ []

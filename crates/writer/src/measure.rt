@@ -27,7 +27,7 @@ pub fn head_size(plan: Plan, text: &[u8], scratch: &mut [u8]) -> usize
     ensures { λ r. ⌜ r ≡ length (page (showHead (now (text .entry)) plan) [] 1 1) ⌝ }
 {
     let keys = keys();
-    let mut people = [0u8; 8192];
+    let mut people = [0u8; 4096];
     let p = lay_people(&mut people, 0, &keys, plan, text);
     lay_page(
         scratch,

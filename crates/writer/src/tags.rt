@@ -4,13 +4,14 @@
 ghost use mathlib.Core.Path.{_≡_};
 ghost use mathlib.Core.Bool.{true};
 ghost use mathlib.Core.List.{[], _∷_};
-ghost use Prim.Native.Nat.{_+_, _*_, _≤_};
+ghost use Prim.Native.Nat.{_+_, _*_, _-_, _≤_};
 ghost use lib.ListN.{length};
 ghost use lib.Seq.{slice};
 ghost use Rattle.paper.specs.Lists.{bytes, every};
 ghost use Rattle.paper.specs.Values.{esc, escape};
 ghost use Rattle.paper.specs.Layout.{shown};
 ghost use Rattle.paper.specs.Writing.{decimal};
+ghost use Rattle.markup.specs.Laid.{laid};
 ghost use Rattle.fields.specs.Places.{nameOf};
 ghost use Rattle.fields.specs.Columns.{keyColumn};
 ghost use Rattle.plan.specs.Numbers.{within, paperSpan};
@@ -29,29 +30,34 @@ fn grows(b: u8) -> u8
     ((b == 34) | (b == 38) | (b == 60)) as u8
 }
 
-// Whether the value from `from` up to `to` is spelled as it is. No byte ends the look early, so that many can be taken at once.
-fn plain(text: &[u8], from: usize, to: usize) -> bool
-    requires { ⌜ (from ≤ to) × (to ≤ length (now text)) ⌝ }
-    ensures { λ r. ⌜ (r ≡ true → escape (slice from to (now (text .entry))) ≡ slice from to (now (text .entry))) ⌝ }
+// Copies the value that stands from `from` up to `to` in the text, and tells whether it is spelled so. No byte ends this early, so that many can be taken at once.
+fn lay_plain(out: &mut [u8], at: usize, text: &[u8], from: usize, to: usize) -> bool
+    requires { ⌜ (from ≤ to) × (to ≤ length (now text)) × (at + (to - from) ≤ length (now out)) ⌝ }
+    ensures { λ r. ⌜ (r ≡ true → escape (slice from to (now (text .entry))) ≡ slice from to (now (text .entry)))
+        × (now (out .exit) ≡ laid (now (out .entry)) at (slice from to (now (text .entry)))) ⌝ }
 {
     let mut grown = 0u8;
+    let mut p = at;
     let mut i = from;
     while i < to {
-        grown = grown | grows(text[i]);
+        let b = text[i];
+        out[p] = b;
+        grown = grown | grows(b);
+        p += 1;
         i += 1;
     }
     grown == 0
 }
 
-// Writes the value that stands from `from` up to `to` in the text as it is spelled; most values are copied.
+// Writes the value that stands from `from` up to `to` in the text as it is spelled: most values are copied, the others are spelled over their copy.
 fn lay_value(out: &mut [u8], at: usize, text: &[u8], from: usize, to: usize) -> usize
     requires { ⌜ (from ≤ to)
         × (to ≤ length (now text))
         × (at + length (escape (slice from to (now text))) ≤ length (now out)) ⌝ }
     ensures { λ r. ⌜ Wrote (now (out .entry)) (now (out .exit)) at r (escape (slice from to (now (text .entry)))) ⌝ }
 {
-    if plain(text, from, to) {
-        return values::lay(out, at, &text[from..to]);
+    if lay_plain(out, at, text, from, to) {
+        return at + (to - from);
     }
     values::spell(text, from, to, out, at)
 }

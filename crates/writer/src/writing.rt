@@ -109,7 +109,7 @@ fn lay_pages(
         × (now (out .exit) ≡ laid (now (out .entry)) 0 (concat (pages (showHead (now (text .entry)) plan) z 1 (parted (now (text .entry)) (now (rows .entry)) 0 (take z ends))))) ⌝ }
 {
     let keys = keys();
-    let mut people = [0u8; 8192];
+    let mut people = [0u8; 4096];
     let p = lay_people(&mut people, 0, &keys, plan, text);
     let mut lens = [0u32; 9];
     let mut at = 0;

@@ -29,7 +29,7 @@ unfolding rowsPlaced
 alone h = page-placed h [] 1 1 false (λ e. absurd (omega (arith, e)))
 
 -- P, A and O stand in their room
-people-within : (P : tie.After-lay-people) → P .lay-people .result ≤ 8192
+people-within : (P : tie.After-lay-people) → P .lay-people .result ≤ 4096
 people-within P =
     let S = P .before .before .before .before .before .before in
     omega (arith, P .lay-people .ensures .behind, people-short (showHead (S .args .text .now) (S .args .plan)) (sound S))

@@ -54,7 +54,7 @@ from-sizes c = c .before .before
 short : (S : tie.Start Inv-loop μ-loop) → soundHead (showHead (S .args .text .now) (S .args .plan)) ≡ true
 short S = head-shown (S .args .text .now) (S .args .plan) (S .pre .0)
 
-people-within : (P : tie.After-lay-people Inv-loop μ-loop) → P .lay-people .result ≤ 8192
+people-within : (P : tie.After-lay-people Inv-loop μ-loop) → P .lay-people .result ≤ 4096
 people-within P =
     let S = from-people P in
     omega (arith, P .lay-people .ensures .behind, people-short (showHead (S .args .text .now) (S .args .plan)) (short S))
