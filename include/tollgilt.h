@@ -111,7 +111,7 @@ enum {
  *   - out and told overlap neither each other nor buffer, starts or lens. Those three are only read and may overlap.
  *   - Until the call returns no other thread writes to any of this memory, and none reads out or told.
  *
- * Any number of threads may call at once, each with a room of its own. A call uses less than 256 KB of its thread's stack: as compiled today about 185
+ * Any number of threads may call at once, each with a room of its own. A call uses less than 256 KB of its thread's stack: as compiled today about 200
  * KB on 64-bit Arm. */
 uint32_t tollgilt_list(const uint8_t *buffer, size_t size, const size_t *starts, size_t starts_count, const size_t *lens, size_t lens_count,
                        uint8_t *out, size_t room, uint32_t told[3]);
