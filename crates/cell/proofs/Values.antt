@@ -18,7 +18,7 @@ use Rattle.paper.specs.Cells.{ofM, ofW}
 use Rattle.paper.proofs.Small.{no, if-same}
 use Rattle.paper.proofs.CellLaws.{RowAt}
 use Rattle.plan.specs.Numbers.{recordAt, spanIn, spansIn, spansOf, twos, before, toLast, rowWith, absent, within}
-use Rattle.plan.proofs.Stores.{records-behind}
+use Rattle.plan.proofs.Records.{records-behind}
 use Rattle.plan.proofs.Doses.{shows}
 use Rattle.cell.specs.Numbered.{standsFor}
 

@@ -21,6 +21,8 @@ use plan::Row;
 use plan::Span;
 use plan::Times;
 use plan::row_at;
+use room::lies_in;
+use room::wide;
 
 // Which cell of a row is asked for: the number of a field, and for substance and strength which of three.
 pub struct Field {
@@ -232,21 +234,14 @@ fn is_medication(kind: Kind) -> bool
     }
 }
 
-// A number of 32 bits as one of the machine's width.
-fn wide(x: u32) -> usize
-    ensures { λ r. ⌜ r ≡ x ⌝ }
-{
-    x as usize
-}
-
 // Whether a value is absent or lies in a text of so many bytes.
-fn lies_in(s: Span, size: usize) -> bool
+fn is_within(s: Span, size: usize) -> bool
     ensures { λ r. ⌜ r ≡ within size (paperSpan s) ⌝ }
 {
     if s.len == 0 {
         return true;
     }
-    wide(s.at) + wide(s.len) <= size
+    lies_in(size, wide(s.at), wide(s.len))
 }
 
 // The cell of a row's field, where the text has so many bytes.
@@ -267,7 +262,7 @@ fn find(rows: &[u32], count: usize, size: usize, row: usize, field: u32, which: 
     };
     let c = field_cell(r, f);
     let own = c.own;
-    if !lies_in(own, size) {
+    if !is_within(own, size) {
         return none();
     }
     c

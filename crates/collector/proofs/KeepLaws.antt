@@ -16,7 +16,7 @@ use Rattle.paper.specs.Reading.{numbers}
 use Rattle.paper.specs.Collecting.{Added, added, alreadyHere, refusedWith}
 use Rattle.paper.proofs.Small.{both, unequal, same-comm}
 use Rattle.paper.proofs.PageNumbers.{numbered}
-use Rattle.markup.specs.Laid.{laid}
+use Rattle.room.specs.Laid.{laid}
 use Rattle.markup.specs.Walk.{tagsAt}
 use Rattle.sheet.specs.Content.{contentOf, headFrom}
 use Rattle.sheet.specs.Judged.{verdictOf}

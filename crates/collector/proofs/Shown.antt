@@ -23,8 +23,8 @@ use Rattle.paper.proofs.AnyOrder.{Perm}
 use Rattle.paper.proofs.ReadSound.{judges}
 use Rattle.paper.proofs.PageNumbers.{Numbered, numbered}
 use Rattle.paper.proofs.Collected.{keep, Way, way, broken, stranger, here, second, fresh, Reached, empty, more, Holds, holds, agrees-first, Rising, up-to-nine, incomplete, as-handed-in, addAll, reached-all, fed-any-order}
-use Rattle.markup.specs.Laid.{laid}
-use Rattle.plan.proofs.Stores.{laid-long, laid-there, laid-before, laid-behind}
+use Rattle.room.specs.Laid.{laid}
+use Rattle.room.proofs.LaidLaws.{laid-long, laid-there, laid-before, laid-behind}
 use Rattle.plan.specs.Numbers.{rowsLent}
 use Rattle.reader.specs.Pages.{firstOf}
 use Rattle.reader.proofs.Digits.{same-picked}

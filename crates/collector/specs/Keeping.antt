@@ -12,7 +12,7 @@ use Rattle.paper.specs.Judging.{Sheet, Judged, refused, sheet, judge}
 use Rattle.paper.specs.Calls.{roomy}
 use Rattle.paper.specs.Reading as Paper
 use Rattle.paper.specs.Collecting.{Added, added, alreadyHere, refusedWith}
-use Rattle.markup.specs.Laid.{laid}
+use Rattle.room.specs.Laid.{laid}
 use Rattle.plan.specs.Numbers.{rowsLent}
 use Rattle.reader.specs.Pages.{picked, firstOf}
 use Rattle.collector.specs.declared.store.Collector.{Collector}

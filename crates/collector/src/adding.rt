@@ -10,13 +10,13 @@ ghost use Rattle.collector.specs.Promise.{Promised};
 use crate::store::Collector;
 use crate::store::PageAt;
 use crate::store::page_at;
-use markup::values::lay;
-use markup::values::spells;
 use reader::alone::belong;
 use reader::alone::numbers_of;
 use reader::answer::Answer as Refusal;
 use reader::answer::refused_page;
-use reader::call::lies_in;
+use room::lay;
+use room::lies_in;
+use room::spells;
 use sheet::judge::Verdict;
 use sheet::judge::judge_page;
 

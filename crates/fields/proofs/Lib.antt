@@ -10,3 +10,4 @@ pub mod NameLaws
 pub mod ColumnLaws
 pub mod FoundLaws
 pub mod TableLaws
+pub mod Parts

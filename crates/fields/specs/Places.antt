@@ -4,7 +4,7 @@ use mathlib.Core.Bool.{Bool, true, false}
 use mathlib.Core.List.{List, [], _∷_, map}
 use Prim.Native.Nat.{ℕ, zero, suc, _+_, _*_, _/_, _%_}
 use lib.Dec.{eqb, leb, ltb}
-use lib.ListN.{length, getD}
+use lib.ListN.{length, take, drop, getD}
 use Rattle.paper.specs.Lists.{if, same}
 use Rattle.paper.specs.Fields.{Kind, unknown, MP, P, A, O, S, M, W, R, X, is, Field, field, table, fieldsOf, children, excluded, Pair}
 use Rattle.paper.specs.Fields.{Rule, text, version, digits, hexes, language, pageNo, birthday, sex, insured, stamp, one, lines, pzn, code3, dose, sign}
@@ -69,6 +69,10 @@ firstOf k = linesBefore k table
 -- how many fields an element has
 unfoldable pub countOf : Kind → ℕ
 countOf k = length (fieldsOf k)
+
+-- n fields of the table, from a place on
+unfoldable pub fieldsFrom : ℕ → ℕ → List Field
+fieldsFrom first n = take n (drop first table)
 
 -- what may stand under a parent of that number: number 10 is outside of all elements, where only MP stands
 unfoldable pub under : ℕ → List Kind

@@ -7,7 +7,7 @@ use crate::numbers::digit;
 use crate::sets::DIGIT;
 use crate::sets::above_zero;
 use crate::sets::all_in;
-use crate::sets::byte_or;
+use room::byte_or;
 
 // How many zeros are put before a value to make eight digits of it.
 fn zeros_before(v: &[u8]) -> usize

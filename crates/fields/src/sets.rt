@@ -3,7 +3,7 @@ ghost use mathlib.Core.Path.{_≡_};
 ghost use mathlib.Core.Bool.{_&&_, not};
 ghost use Prim.Native.Nat.{_+_, _≤_};
 ghost use lib.Dec.{leb};
-ghost use lib.ListN.{length, drop, getD};
+ghost use lib.ListN.{length, drop};
 ghost use Rattle.paper.specs.Lists.{every, until};
 ghost use Rattle.paper.specs.Bytes.{isDigit, isCapital, isSmall, isLetter, isDecoded};
 ghost use Rattle.paper.specs.Rules.{shape, is-byte, isHexCapital};
@@ -121,16 +121,6 @@ pub fn in_set(k: u8, b: u8) -> bool
         return is_sign(b);
     }
     b == k
-}
-
-// The byte at a place, or 0 past the end.
-pub fn byte_or(v: &[u8], i: usize) -> u8
-    ensures { λ r. ⌜ r ≡ getD (now (v .entry)) i 0 ⌝ }
-{
-    if i < v.len() {
-        return v[i];
-    }
-    0
 }
 
 // Where a run of bytes of one set ends that starts at `from`: at the first byte that is not in the set, or at the end.

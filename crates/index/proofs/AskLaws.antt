@@ -17,9 +17,9 @@ use Rattle.paper.specs.Index.{numberOf, holds, heldFrom, heldAt, Pair, pair, be
 use Rattle.paper.specs.Calls.{rowRoom}
 use Rattle.paper.proofs.Small.{no, both}
 use Rattle.paper.proofs.Indexed.{rowsWith, as-many, not-more, index, rows-there, before-trans, by-tests, rows-with}
-use Rattle.markup.specs.Laid.{laid}
+use Rattle.room.specs.Laid.{laid}
 use Rattle.plan.specs.Numbers.{rowsLent, recordAt, showRow, showRows}
-use Rattle.plan.proofs.Stores.{records-behind}
+use Rattle.plan.proofs.Records.{records-behind}
 use Rattle.plan.proofs.Shown.{rows-shown, row-next}
 use Rattle.index.specs.Pairs.{pairsLent, pairAt, pairsIn, inPlace, rowsIn, ahead, rowsOf}
 use Rattle.index.specs.Answers.{Stand, rowsFit, replied, repliedInto, replyTold, kthTold, nthTold, listAfter}

@@ -14,7 +14,7 @@ use Rattle.paper.specs.Reading as Paper
 use Rattle.paper.specs.Index.{Pair, numberOf, sorted, indexOf, holders, replyOf, asked, pairRoom}
 use Rattle.paper.proofs.Small.{both, unequal}
 use Rattle.paper.proofs.Indexed.{pairs-same}
-use Rattle.markup.specs.Laid.{laid}
+use Rattle.room.specs.Laid.{laid}
 use Rattle.plan.specs.Numbers.{rowsLent, showRow, showRows, planRows}
 use Rattle.plan.proofs.Shown.{rows-size}
 use Rattle.reader.specs.Promise as Reader

@@ -20,7 +20,7 @@ use Rattle.paper.specs.Calls.{readAt, readCall, roomy, inside, pagesAt}
 use Rattle.paper.specs.Index.{Pair, pair, numberOf, holds, pairsFrom, sorted, indexOf, holdersFrom, holders, pairRoom}
 use Rattle.paper.proofs.Small.{both}
 use Rattle.paper.proofs.ReadSound.{read-sound}
-use Rattle.markup.specs.Laid.{laid}
+use Rattle.room.specs.Laid.{laid}
 use Rattle.plan.specs.Numbers.{kindShown, kindNumber, rowsLent, showRow, showRows, recordWith, rowNumbers, rowsNumbers, planRows}
 use Rattle.plan.proofs.Spans.{record-size}
 use Rattle.plan.proofs.Shown.{rows-size}

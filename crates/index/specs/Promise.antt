@@ -8,7 +8,7 @@ use lib.ListN.{length}
 use Rattle.paper.specs.Lists.{if}
 use Rattle.paper.specs.Reading as Paper
 use Rattle.paper.specs.Index.{indexOf, pairRoom}
-use Rattle.markup.specs.Laid.{laid}
+use Rattle.room.specs.Laid.{laid}
 use Rattle.reader.specs.Promise as Reader
 use Rattle.collector.specs.declared.store.Collector.{Collector}
 use Rattle.collector.specs.Keeping.{collected}

@@ -3,7 +3,7 @@ ghost use mathlib.Core.Path.{_≡_};
 ghost use Prim.Native.Nat.{_+_, _*_, _≤_, _<_};
 ghost use lib.ListN.{length, drop};
 ghost use Rattle.paper.specs.Index.{indexOf, samePairs, pairsFrom, heldAt};
-ghost use Rattle.markup.specs.Laid.{laid};
+ghost use Rattle.room.specs.Laid.{laid};
 ghost use Rattle.index.specs.Pairs.{pairAt, pairsIn, inPlace, rowsIn, rowsOf};
 ghost use Rattle.index.specs.Answers.{Finds, replied, repliedInto, replyTold, nthTold, listAfter};
 use crate::answer::Nth;

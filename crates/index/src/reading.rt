@@ -3,7 +3,7 @@ ghost use mathlib.Core.Path.{_≡_};
 ghost use Prim.Native.Nat.{_*_, _≤_};
 ghost use lib.ListN.{length};
 ghost use Rattle.paper.specs.Index.{indexOf};
-ghost use Rattle.markup.specs.Laid.{laid};
+ghost use Rattle.room.specs.Laid.{laid};
 ghost use Rattle.index.specs.Pairs.{flat, rowsIn};
 ghost use Rattle.index.specs.Promise.{Promised, answered, collectedWith, noRoom};
 use crate::build::fill;

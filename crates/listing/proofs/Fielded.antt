@@ -14,13 +14,13 @@ use Rattle.paper.specs.Plan.{Slots}
 use Rattle.paper.specs.Layout.{shown, shownAll}
 use Rattle.paper.specs.Listing.{Line, line, print, fieldLines}
 use Rattle.paper.proofs.Small.{both}
-use Rattle.fields.specs.Places.{noField, fieldAt, keyOf, nameOf}
+use Rattle.fields.specs.Places.{noField, fieldAt, keyOf, nameOf, fieldsFrom}
 use Rattle.fields.proofs.TableLaws.{letters-back}
 use Rattle.plan.specs.Numbers.{within}
 use Rattle.room.specs.Written.{Wrote}
 use Rattle.listing.specs.Numbered.{given, linesOf}
-use Rattle.room.specs.Numbered.{spanAt, spansAt, fieldsFrom}
-use Rattle.room.proofs.Parts.{span-inside}
+use Rattle.room.specs.Numbered.{spanAt, spansAt}
+use Rattle.plan.proofs.Numbered.{span-inside}
 use Rattle.room.proofs.Pieces.{Fits, Going, going-start, going-fits, going-on, first-fits, second-fits, both-written}
 
 -- lines behind lines are printed behind them

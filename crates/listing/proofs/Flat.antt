@@ -11,12 +11,13 @@ use Rattle.paper.specs.Plan.{Slots}
 use Rattle.paper.specs.Layout.{Span, shownAll}
 use Rattle.paper.specs.Writing.{decimal}
 use Rattle.paper.specs.Listing.{Line, line, path, fieldLines, headLines}
-use Rattle.fields.specs.Places.{noField}
+use Rattle.fields.specs.Places.{noField, fieldsFrom}
 use Rattle.plan.specs.Numbers.{paperSpan, headNumbers, headWith}
 use Rattle.plan.specs.declared.Span as Code
 use Rattle.listing.specs.Numbered.{given, linesOf, mpLines}
-use Rattle.room.proofs.Parts.{part-shown, head-fields, two-first}
-use Rattle.room.specs.Numbered.{spansAt, fieldsFrom}
+use Rattle.plan.proofs.Numbered.{part-shown, two-first}
+use Rattle.fields.proofs.Parts.{head-fields}
+use Rattle.room.specs.Numbered.{spansAt}
 
 -- ---- the lines of the head
 

@@ -16,12 +16,14 @@ use Rattle.paper.specs.Layout.{shownAll}
 use Rattle.paper.specs.Writing.{decimal}
 use Rattle.paper.specs.Listing.{Line, line, path, fieldLines, elementLines, wLines, rowMark, rowLines, rowsLines, print}
 use Rattle.paper.proofs.Small.{both}
-use Rattle.plan.specs.Numbers.{recordAt, spansOf, kindShown, ownSpans, twos, before, toLast, rowWith, showRow, showRows, inText, knownKind, spareAbsent, fitRecord, fitRows}
-use Rattle.plan.proofs.Stores.{records-behind}
+use Rattle.plan.specs.Numbers.{recordAt, spansOf, kindShown, ownSpans, twos, before, toLast, rowWith, showRow, showRows, inText, knownKind, spareAbsent, fitRecord, fitRows, spanPlace}
+use Rattle.plan.proofs.Records.{records-behind}
 use Rattle.plan.proofs.Shown.{row-next, rows-shown}
 use Rattle.listing.specs.Numbered.{given, linesOf, plainRow, substanceLines, medicationRow}
-use Rattle.room.proofs.Parts.{part-of-row, row-fields}
-use Rattle.room.specs.Numbered.{spansAt, fieldsFrom, spanPlace}
+use Rattle.plan.proofs.Numbered.{part-of-row}
+use Rattle.fields.proofs.Parts.{row-fields}
+use Rattle.room.specs.Numbered.{spansAt}
+use Rattle.fields.specs.Places.{fieldsFrom}
 use Rattle.listing.proofs.Fielded.{print-append}
 
 -- ---- a row's lines

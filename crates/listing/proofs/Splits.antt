@@ -10,8 +10,8 @@ use lib.ListN.{length, take, drop, getD, set, length-take, length-drop, drop-of-
 use lib.Dec.{ltb}
 use lib.Seq.{drop-cons, drop-drop, take-nil, take-all, take-at}
 use borrow.Author.Tests.{ltb-true, ltb-false}
-use Rattle.markup.specs.Laid.{laid}
-use Rattle.markup.proofs.LaidLaws.{Laying, start, told, next-byte, all-laid}
+use Rattle.room.specs.Laid.{laid}
+use Rattle.room.proofs.LaidLaws.{Laying, start, told, next-byte, all-laid}
 use Rattle.paper.specs.Calls.{pagesAt}
 use Rattle.paper.specs.Listing.{onto, parted}
 use Rattle.listing.specs.Split.{toZero, startsFrom, lengths}

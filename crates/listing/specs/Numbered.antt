@@ -8,8 +8,9 @@ use Rattle.paper.specs.Fields.{table, edition, M, W}
 use Rattle.paper.specs.Layout.{shownAll}
 use Rattle.paper.specs.Listing.{Line, line, path, fieldLines}
 use Rattle.paper.specs.Writing.{decimal}
-use Rattle.plan.specs.Numbers.{recordAt}
-use Rattle.room.specs.Numbered.{spansAt, fieldsFrom, spanPlace}
+use Rattle.plan.specs.Numbers.{recordAt, spanPlace}
+use Rattle.room.specs.Numbered.{spansAt}
+use Rattle.fields.specs.Places.{fieldsFrom}
 
 -- the line of a value, none if the value is absent
 abbrev pub given : List ℕ → List ℕ → List Line

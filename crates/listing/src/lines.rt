@@ -13,7 +13,7 @@ ghost use Rattle.listing.specs.Numbered.{given};
 use fields::lookup::letters_of;
 use fields::names::lay_name;
 use fields::numbers::spell;
-use markup::values::lay;
+use room::lay;
 
 // Writes a number in digits, 0 too, and returns the place behind it.
 pub fn numeral(n: u32, out: &mut [u8], at: usize) -> usize

@@ -3,7 +3,7 @@ ghost use mathlib.Core.Path.{_≡_};
 ghost use Prim.Native.Nat.{_+_, _≤_};
 ghost use lib.ListN.{length, drop, take};
 ghost use Rattle.paper.specs.Listing.{parted};
-ghost use Rattle.markup.specs.Laid.{laid};
+ghost use Rattle.room.specs.Laid.{laid};
 ghost use Rattle.listing.specs.Split.{toZero, startsFrom, lengths};
 
 // Where the page that begins at `at` ends: at the next zero byte, or at the input's end.

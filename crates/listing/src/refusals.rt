@@ -3,7 +3,7 @@ ghost use mathlib.Core.Path.{_≡_};
 ghost use Prim.Native.Nat.{_≤_};
 ghost use lib.ListN.{length};
 ghost use Rattle.paper.specs.Listing.{refusalLines};
-ghost use Rattle.markup.specs.Laid.{laid};
+ghost use Rattle.room.specs.Laid.{laid};
 use crate::lines::count_line;
 
 // Prints a refusal's number, page and place into `out`, and returns how many bytes these lines have. All other bytes of `out` stay.

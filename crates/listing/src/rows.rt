@@ -5,7 +5,7 @@ ghost use Prim.Native.Nat.{_+_, _*_, _≤_, _<_};
 ghost use lib.ListN.{length};
 ghost use Rattle.paper.specs.Listing.{print, rowLines, rowsLines, listing};
 ghost use Rattle.plan.specs.Numbers.{recordAt, showRow, showRows, showPlan, inText, headInText, fitRows};
-ghost use Rattle.markup.specs.Laid.{laid};
+ghost use Rattle.room.specs.Laid.{laid};
 ghost use Rattle.room.specs.Written.{Wrote};
 ghost use Rattle.listing.specs.Numbered.{plainRow, medicationRow, substanceLines};
 use crate::elements::fields;

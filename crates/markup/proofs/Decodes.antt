@@ -12,12 +12,12 @@ use lib.Seq.{slice, slice-cons, slice-empty}
 use borrow.Author.Tests.{eq-eqb, ne-eqb, eqb-true}
 use Rattle.paper.specs.Lists.{if}
 use Rattle.paper.specs.Values.{text, plainly, refers, vstep, decode, keep, cut, value}
-use Rattle.markup.specs.Laid.{laid}
+use Rattle.room.specs.Laid.{laid}
 use Rattle.markup.specs.Decoding.{shown, placeAt, Sound}
 use Rattle.markup.specs.declared.values.Place.{Place}
 use Rattle.markup.specs.declared.values.Place.the-variants.{Text, Cr, Ref}
 use Rattle.markup.proofs.Slices.{grown}
-use Rattle.markup.proofs.LaidLaws.{Laying, start, told, next-piece, all-laid}
+use Rattle.room.proofs.LaidLaws.{Laying, start, told, next-piece, all-laid}
 
 -- ---- trailing blanks
 

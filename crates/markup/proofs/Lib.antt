@@ -5,7 +5,6 @@ pub mod TableLaws
 pub mod Slices
 pub mod Turns
 pub mod ExtentLaws
-pub mod LaidLaws
 pub mod Numerals
 pub mod Decodes
 pub mod Plain

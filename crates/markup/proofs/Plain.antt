@@ -9,7 +9,7 @@ use lib.ListN.{length, getD, take, drop}
 use lib.Seq.{slice, slice-cons, slice-empty, length-slice}
 use borrow.Author.Tests.{ne-eqb}
 use Rattle.paper.specs.Values.{text, decode, keep, cut, value}
-use Rattle.markup.specs.Laid.{laid}
+use Rattle.room.specs.Laid.{laid}
 use Rattle.markup.proofs.WalkLaws.{take-drop}
 
 -- a byte that is no `&` and no control byte stands for itself

@@ -1,21 +1,19 @@
--- Spells: the fresh spelling of a value byte by byte, and the comparison of a page's bytes with a word.
+-- Spells: the fresh spelling of a value byte by byte.
 -- Assumes nothing.
-use mathlib.Core.Path.{_≡_, refl, sym, ap, _∙_}
-use mathlib.Core.Bool.{Bool, true, false, _&&_}
+use mathlib.Core.Path.{_≡_, sym}
+use mathlib.Core.Bool.{Bool, true, false}
 use mathlib.Core.List.{List, [], _∷_, _++_}
-use Prim.Native.Nat.{ℕ, suc, _+_, _*_, _-_, _≤_, _<_}
+use Prim.Native.Nat.{ℕ, _+_, _*_, _≤_, _<_}
 use native.Mathlib.Nat.{add-assoc}
 use native.Mathlib.Numerals.{add-one}
 use native.Mathlib.Omega.{arith}
 use lib.Dec.{eqb}
-use lib.ListN.{length, getD, drop, length-append, drop-of-length-le}
-use lib.Seq.{slice, slice-cons, slice-empty, length-slice, drop-cons}
-use borrow.Author.Tests.{eq-eqb, ne-eqb}
-use Rattle.paper.specs.Lists.{if, bytes, same}
+use lib.ListN.{length, getD, length-append}
+use lib.Seq.{slice, slice-cons, slice-empty}
+use Rattle.paper.specs.Lists.{if, bytes}
 use Rattle.paper.specs.Values.{esc, escape}
-use Rattle.paper.proofs.Small.{same-eq}
-use Rattle.markup.specs.Laid.{laid}
-use Rattle.markup.proofs.LaidLaws.{Laying, start, told, next-piece, all-laid}
+use Rattle.room.specs.Laid.{laid}
+use Rattle.room.proofs.LaidLaws.{Laying, start, told, next-piece, all-laid}
 
 -- ---- spelling
 
@@ -42,34 +40,6 @@ escape-first w i to h k = rw (add-one, slice-cons i to w 0 h k)
 pub longer : (w : List ℕ) (n i to : ℕ) → i < to → to ≤ length w
     → n + length (escape (slice i to w)) ≡ n + length (esc (getD w i 0)) + length (escape (slice (i + 1) to w))
 longer w n i to h k = rw (escape-first w i to h k, length-append) (sym (add-assoc n (length (esc (getD w i 0))) (length (escape (slice (i + 1) to w)))))
-
--- ---- comparing
-
--- bytes and a word of other lengths are not the same
-pub other-length : (w word : List ℕ) (from to : ℕ) → from ≤ to → to ≤ length w → (to - from ≡ length word → ⊥) → same (slice from to w) word ≡ false
-other-length w word from to h k n = go (same (slice from to w) word) refl
-  where
-    go : (t : Bool) → same (slice from to w) word ≡ t → t ≡ false
-    go true e = absurd (n (sym (length-slice from to w k) ∙ ap length (same-eq (slice from to w) word e)))
-    go false e = refl
-
-module _ (w word : List ℕ) (from to i : ℕ) (h : from + i < to) (k : to ≤ length w) (l : i < length word) where
-  both : same (slice (from + i) to w) (drop i word) ≡ eqb (getD w (from + i) 0) (getD word i 0) && same (slice (from + (i + 1)) to w) (drop (i + 1) word)
-  both =
-      let e : from + (i + 1) ≡ suc (from + i) = omega arith in
-      rw (e, slice-cons (from + i) to w 0 h k, drop-cons word i 0 l, add-one i)
-
-  -- equal bytes leave it to the rest
-  pub spells-on : getD w (from + i) 0 ≡ getD word i 0 → same (slice (from + i) to w) (drop i word) ≡ same (slice (from + (i + 1)) to w) (drop (i + 1) word)
-  spells-on q = both ∙ rw (eq-eqb (getD w (from + i) 0) (getD word i 0) q)
-
-  -- unequal bytes decide it
-  pub spells-off : (getD w (from + i) 0 ≡ getD word i 0 → ⊥) → same (slice (from + i) to w) (drop i word) ≡ false
-  spells-off q = both ∙ rw (ne-eqb (getD w (from + i) 0) (getD word i 0) q)
-
--- nothing is left of either
-pub spells-end : (w word : List ℕ) (from to i : ℕ) → from + i ≡ to → length word ≤ i → same (slice (from + i) to w) (drop i word) ≡ true
-spells-end w word from to i e h = rw (e, slice-empty to w, drop-of-length-le word h)
 
 -- ---- the loop of spelling
 

@@ -1,5 +1,4 @@
 -- What the contracts of markup cite. Everything here is told in paper's definitions.
 pub mod Extent
-pub mod Laid
 pub mod Decoding
 pub mod Walk

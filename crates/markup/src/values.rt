@@ -5,10 +5,11 @@ ghost use mathlib.Core.List.{_++_, _∷_, []};
 ghost use Prim.Native.Nat.{_<_, _≤_, _+_, _-_, _^_};
 ghost use lib.ListN.{length, getD, replicate};
 ghost use lib.Seq.{slice};
-ghost use Rattle.paper.specs.Lists.{same};
 ghost use Rattle.paper.specs.Values as Paper;
-ghost use Rattle.markup.specs.Laid.{laid};
+ghost use Rattle.room.specs.Laid.{laid};
 ghost use Rattle.markup.specs.Decoding.{digitIn, numeralIn, capped, namedOf, placeAt, Sound, Gives};
+use room::lay;
+use room::spells;
 
 // Where in a raw value: in its text, behind a byte 13, or in a reference whose first byte behind the `&` stands there.
 enum Place {
@@ -21,24 +22,6 @@ enum Place {
 struct Given {
     out: u16,
     to: Place,
-}
-
-// Whether the bytes of the page from `from` to `to` are those of the word.
-pub fn spells(page: &[u8], from: usize, to: usize, word: &[u8]) -> bool
-    requires { ⌜ (from ≤ to) × (to ≤ length (now page)) ⌝ }
-    ensures { λ r. ⌜ r ≡ same (slice from to (now (page .entry))) (now (word .entry)) ⌝ }
-{
-    if to - from != word.len() {
-        return false;
-    }
-    let mut i = 0;
-    while i < word.len() {
-        if page[from + i] != word[i] {
-            return false;
-        }
-        i += 1;
-    }
-    true
 }
 
 // The value of a byte as a digit, in base 10 or 16; in base 16 in either case.
@@ -311,19 +294,6 @@ pub fn decode(page: &[u8], from: usize, to: usize, out: &mut [u8], at: usize) ->
         return lay(out, at, &page[from..to]);
     }
     decode_each(page, from, to, out, at)
-}
-
-// Writes a word into `out` from `n` on, and returns the place behind it. No other byte of `out` changes.
-pub fn lay(out: &mut [u8], n: usize, word: &[u8]) -> usize
-    requires { ⌜ n + length (now word) ≤ length (now out) ⌝ }
-    ensures { λ r. ⌜ (r ≡ n + length (now (word .entry))) × (now (out .exit) ≡ laid (now (out .entry)) n (now (word .entry))) ⌝ }
-{
-    let mut i = 0;
-    while i < word.len() {
-        out[n + i] = word[i];
-        i += 1;
-    }
-    n + word.len()
 }
 
 // Writes a byte of a value as it is spelled on a fresh page, and returns the place behind it.

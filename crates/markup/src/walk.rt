@@ -2,11 +2,12 @@
 // are the page's tags.
 ghost use mathlib.Core.Path.{_≡_};
 ghost use Prim.Native.Nat.{_+_, _≤_};
-ghost use lib.ListN.{length, drop, getD};
+ghost use lib.ListN.{length, drop};
 ghost use Rattle.paper.specs.Lists.{until};
 ghost use Rattle.paper.specs.Bytes.{isSpace};
 ghost use Rattle.paper.specs.Grammar.{isNameByte};
 ghost use Rattle.markup.specs.Walk.{isMiddle, passes, insideAt, tagsAt, firstOf, tagOf, Inner, Outer};
+use room::byte_or;
 
 // A page's next tag.
 pub enum Mark {
@@ -126,16 +127,6 @@ pub fn run(page: &[u8], at: usize, k: u8) -> usize
         }
     }
     i
-}
-
-// The byte at `i`, or 0 behind the page's end.
-pub fn byte_or(page: &[u8], i: usize) -> u8
-    ensures { λ r. ⌜ r ≡ getD (now (page .entry)) i 0 ⌝ }
-{
-    if i < page.len() {
-        return page[i];
-    }
-    0
 }
 
 // The next attribute of a tag from `at` on, or the tag's end.

@@ -17,14 +17,13 @@ use Rattle.paper.specs.Plan.{Slots}
 use Rattle.paper.specs.Judging.{allEmpty, item, rowOf}
 use Rattle.paper.proofs.Small.{no, below-at}
 use Rattle.paper.specs.Layout.{Span, spanAt, spansFrom}
-use Rattle.markup.specs.Laid.{laid}
-use Rattle.markup.proofs.LaidLaws.{Laying, start, next-piece, next-byte, all-laid}
+use Rattle.room.specs.Laid.{laid}
+use Rattle.room.proofs.LaidLaws.{Laying, start, next-piece, next-byte, all-laid, laid-long}
 use Rattle.markup.specs.Walk.{inside}
 use Rattle.fields.specs.Places.{countOf, kindAt}
 use Rattle.fields.proofs.TableLaws.{code-back}
 use Rattle.plan.specs.Numbers.{flat, kindNumber}
 use Rattle.plan.proofs.Shown.{concat-append}
-use Rattle.plan.proofs.Stores.{laid-long}
 use Rattle.plan.specs.declared.Span as Code
 use Rattle.page.specs.Laying.{Room, startOf, Lays, pairs, givesRow, rowFrom}
 

@@ -22,7 +22,7 @@ use Rattle.paper.specs.Layout.{Span, spansFrom, headValues}
 use Rattle.paper.proofs.Small.{no, both, neither}
 use Rattle.paper.proofs.Element.{settled-nil}
 use Rattle.paper.proofs.Told.{is-eq}
-use Rattle.markup.specs.Laid.{laid}
+use Rattle.room.specs.Laid.{laid}
 use Rattle.fields.specs.Places.{noField, fieldAt, firstOf, countOf, kindAt}
 use Rattle.fields.proofs.TableLaws.{field-at}
 use Rattle.plan.specs.Numbers.{flat, codeSpan, headSpans}

@@ -13,8 +13,8 @@ use Rattle.paper.specs.Fields.{M, W, is, fieldsOf}
 use Rattle.paper.specs.Plan.{Slots, Row}
 use Rattle.paper.specs.Judging.{broken}
 use Rattle.paper.specs.Layout.{Span, spansFrom, rowValues, rowsValues}
-use Rattle.markup.specs.Laid.{laid}
-use Rattle.markup.proofs.LaidLaws.{Laying, start, next-piece, all-laid}
+use Rattle.room.specs.Laid.{laid}
+use Rattle.room.proofs.LaidLaws.{Laying, start, next-piece, all-laid}
 use Rattle.fields.specs.Places.{kindAt, noField}
 use Rattle.fields.proofs.TableLaws.{code-back}
 use Rattle.plan.specs.Numbers.{flat, padded, kindNumber, recordWith, rowNumbers, rowsNumbers}

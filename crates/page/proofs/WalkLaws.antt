@@ -16,13 +16,13 @@ use Rattle.paper.specs.Judging.{item, rowOf, broken, judge, sheet, tail, or}
 use Rattle.paper.specs.Layout.{rowValues}
 use Rattle.paper.proofs.Told.{is-eq}
 use Rattle.paper.proofs.Small.{below-at}
-use Rattle.markup.specs.Laid.{laid}
+use Rattle.room.specs.Laid.{laid}
 use Rattle.markup.specs.Walk.{tagsAt}
 use Rattle.fields.specs.Places.{kindAt, countOf, fieldAt}
 use Rattle.fields.proofs.TableLaws.{kind-back, code-back}
 use Rattle.plan.specs.Numbers.{recordWith}
 use Rattle.plan.proofs.Spans.{record-size}
-use Rattle.plan.proofs.Stores.{laid-long}
+use Rattle.room.proofs.LaidLaws.{laid-long}
 use Rattle.sheet.specs.Content.{kindNamed, partFrom, rowsFrom, headFrom}
 use Rattle.sheet.specs.Fit.{Fit}
 use Rattle.page.specs.Laying.{Room, Lays, givesRow, rowFrom, LaysRow}

@@ -11,7 +11,7 @@ use Rattle.paper.specs.Fields.{Kind, M, R, S, X, is, fieldsOf}
 use Rattle.paper.specs.Plan.{Slots, Head, Row, slot}
 use Rattle.paper.specs.Judging.{allEmpty, tail}
 use Rattle.paper.specs.Layout.{spansFrom, headValues, rowValues, rowsValues}
-use Rattle.markup.specs.Laid.{laid}
+use Rattle.room.specs.Laid.{laid}
 use Rattle.plan.specs.Numbers.{flat, rowNumbers, rowsNumbers, headSpans}
 use Rattle.plan.specs.declared.Span as Code
 

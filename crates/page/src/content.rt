@@ -25,10 +25,10 @@ use crate::values::number_in;
 use crate::values::same_slots;
 use crate::values::value_of;
 use fields::lookup::count_of;
-use markup::values::spells;
 use plan::Kind;
 use plan::Span;
 use plan::open_row;
+use room::spells;
 
 // How many numbers stand before an element's values on the tape; the third of them tells where the next element begins.
 pub const HEADER: usize = 3;

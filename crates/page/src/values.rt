@@ -8,8 +8,8 @@ ghost use Rattle.paper.specs.Plan.{sameSlots};
 ghost use Rattle.page.specs.Laying.{startOf, Room, Lays};
 ghost use Rattle.tape.specs.Tape.{shownIn, valuesAt, Span, Spans};
 use fields::numbers::shown;
-use markup::values::lay;
-use markup::values::spells;
+use room::lay;
+use room::spells;
 
 // A start from here on says that the value lies in the side room, so much less far.
 pub const ASIDE: usize = 32768;

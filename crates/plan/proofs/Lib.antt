@@ -1,6 +1,7 @@
 -- The laws about a plan as numbers. What each file is for stands in its first line.
-pub mod Stores
+pub mod Records
 pub mod Spans
+pub mod Numbered
 pub mod Shown
 pub mod Parts
 pub mod Doses

@@ -22,7 +22,7 @@ use Rattle.paper.proofs.Element.{good-slots, good-whole}
 use Rattle.paper.proofs.Rows.{row, View, head, med, rec, free, AllSound, all-sound}
 use Rattle.paper.proofs.Sheets.{SoundHead, head-sound}
 use Rattle.plan.specs.Numbers.{recordAt, kindShown, ownSpans, twos, before, toLast, rowWith, showRow, showRows, paperSpan, headWith, showHead, showPlan, absent, within, inText, headInText, knownKind, hasSpans, spareAbsent, fitRecord, fitRows, kindNumber, padded, recordWith, rowNumbers, rowsNumbers, codeSpan, planNumbers, planRows}
-use Rattle.plan.proofs.Stores.{records-behind}
+use Rattle.plan.proofs.Records.{records-behind}
 use Rattle.plan.proofs.Spans.{none, record-size, spans-back, front-spans, padded-long, padded-front, padded-behind}
 
 -- ---- values that lie without gaps

@@ -40,6 +40,10 @@ recordAt rows i = take 48 (drop (i * 48) rows)
 abbrev pub spanIn : List ℕ → ℕ → Span
 spanIn l j = record { at = getD l (2 + 2 * j) 0; len = getD l (3 + 2 * j) 0 }
 
+-- the place of span j of row i among the numbers of the rows
+abbrev pub spanPlace : ℕ → ℕ → ℕ
+spanPlace i j = i * 48 + (2 + 2 * j)
+
 -- n spans of a record, from span j on
 unfoldable pub spansIn : ℕ → ℕ → List ℕ → List Span
 spansIn zero j l = []

@@ -1,14 +1,15 @@
 -- Records: a row as the code holds it, with its dose taken apart; and what the stores into a row's record leave. Serves this crate's contracts.
 -- Assumes nothing.
 use mathlib.Core.Bool.{_&&_}
-use mathlib.Core.List.{List, [], _∷_, _++_}
+use mathlib.Core.List.{List, [], _∷_}
 use Prim.Native.Nat.{ℕ, zero, suc, _+_, _*_}
 use lib.Dec.{eqb, ltb}
-use lib.ListN.{length, take, drop, getD, replicate}
+use lib.ListN.{getD, replicate}
 use Rattle.paper.specs.Lists.{if}
 use Rattle.paper.specs.Fields as Paper
 use Rattle.paper.specs.Plan as P
 use Rattle.paper.specs.Layout.{shown}
+use Rattle.room.specs.Laid.{laid}
 use Rattle.plan.specs.declared.Span.{Span}
 use Rattle.plan.specs.declared.Times.{Times}
 use Rattle.plan.specs.declared.Dose.{Dose}
@@ -92,10 +93,6 @@ unfoldable pub rowIn : List ℕ → Row
 rowIn l = record { kind = codeKind (kindShown (getD l 0 0)); «package» = getD l 1 0; dose = doseIn l; texts = textsIn 14 0 l }
 
 -- ---- stores
-
--- the numbers p in the place of as many, from `at` on
-abbrev pub laid : List ℕ → ℕ → List ℕ → List ℕ
-laid xs at p = take at xs ++ (p ++ drop (at + length p) xs)
 
 -- the rows with another record i
 abbrev pub withRecord : List ℕ → ℕ → List ℕ → List ℕ

@@ -7,7 +7,8 @@ ghost use Prim.Native.Nat.{_+_, _*_, _≤_, _<_};
 ghost use mathlib.Core.List.{[], map};
 ghost use lib.ListN.{length, getD};
 ghost use Rattle.plan.specs.Numbers.{recordAt, kindShown, paperSpan, kindNumber, headNumbers, recordWith};
-ghost use Rattle.plan.specs.Records.{paperKind, codeKind, codeSpanIn, doseFrom, doseIn, textSpan, textsIn, rowIn, laid, withRecord, emptyPlan};
+ghost use Rattle.plan.specs.Records.{paperKind, codeKind, codeSpanIn, doseFrom, doseIn, textSpan, textsIn, rowIn, withRecord, emptyPlan};
+use room::lay_numbers;
 
 // A value in the text: its start and its length. It is absent exactly when the length is 0.
 pub struct Span {
@@ -227,27 +228,6 @@ pub fn row_at(rows: &[u32], i: usize) -> Row
     }
 }
 
-// Copies numbers into the place of as many others.
-fn copy(from: &[u32], to: &mut [u32])
-    requires { ⌜ length (now from) ≡ length (now to) ⌝ }
-    ensures { λ _. ⌜ now (to .exit) ≡ now (from .entry) ⌝ }
-{
-    let mut i = 0;
-    while i < from.len() {
-        to[i] = from[i];
-        i += 1;
-    }
-}
-
-// Lays numbers into the rows, from `at` on. All other numbers stay.
-fn lay(rows: &mut [u32], at: usize, p: &[u32])
-    requires { ⌜ at + length (now p) ≤ length (now rows) ⌝ }
-    ensures { λ _. ⌜ now (rows .exit) ≡ laid (now (rows .entry)) at (now (p .entry)) ⌝ }
-{
-    let n = p.len();
-    copy(p, &mut rows[at..at + n]);
-}
-
 // Opens row i: its record has the kind and the package number, and 0 in all other places. All other records stay.
 pub fn open_row(rows: &mut [u32], i: usize, kind: Kind, package: u32)
     requires { ⌜ (i + 1) * 48 ≤ length (now rows) ⌝ }
@@ -256,7 +236,7 @@ pub fn open_row(rows: &mut [u32], i: usize, kind: Kind, package: u32)
     let mut record = [0u32; Plan::STRIDE];
     record[0] = kind_number(kind);
     record[1] = package;
-    lay(rows, i * Plan::STRIDE, &record);
+    lay_numbers(rows, i * Plan::STRIDE, &record);
 }
 
 // The spans of a head as numbers: span j at number 2 + 2 * j, as in a row's record, behind two that are 0.

@@ -4,7 +4,7 @@ use cell::answer::refusal_number;
 use cell::answer::source_number;
 use cell::cell_answer;
 use cell::cell_text;
-use markup::values::lay;
+use room::lay;
 
 // The text of a cell, laid at the beginning of `out`: its length, or a million if the room is too small.
 #[no_mangle]

@@ -15,8 +15,8 @@ use Rattle.paper.specs.Bytes.{isDecoded, isDigit}
 use Rattle.paper.specs.Grammar.{Pass, Some, isHex, Ref, amp, lt, gt, quot, apos, dec, hex, Raw, end, plain, ref, Quote, double, single}
 use Rattle.paper.specs.Values.{text, cr, At, decode, cut, value, refers, mark, hexNumber}
 use Rattle.paper.proofs.Small.{no, both, every-append}
-use Rattle.markup.specs.Laid.{laid}
-use Rattle.markup.proofs.LaidLaws.{set-laid}
+use Rattle.room.specs.Laid.{laid}
+use Rattle.room.proofs.LaidLaws.{set-laid}
 use Rattle.quick.specs.Plain.{ordinary}
 use Rattle.quick.specs.Passed.{rare, RefAt, RawAt}
 use Rattle.quick.specs.Coded.{OddAt, CodedAt}

@@ -12,9 +12,9 @@ use crate::ordinary_end;
 use crate::raw::is_rare;
 use crate::raw::reference_end;
 use crate::trimmed;
-use markup::values::lay;
 use markup::values::refers;
-use markup::walk::byte_or;
+use room::byte_or;
+use room::lay;
 
 // What an odd byte, or a reference that begins with one, stands for, and the place behind it (0: it is not surely fine).
 struct Odd {

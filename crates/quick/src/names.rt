@@ -10,7 +10,7 @@ use crate::attrs::is_quote;
 use crate::letters::LETTERS;
 use fields::lookup::find;
 use fields::lookup::key;
-use markup::walk::byte_or;
+use room::byte_or;
 
 // How many numbers of the table belong to one element.
 const ROW: usize = 128;

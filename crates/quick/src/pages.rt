@@ -20,7 +20,7 @@ use crate::tags::name_behind;
 use crate::take::put;
 use crate::take::spaces_end;
 use crate::take::take_attrs;
-use markup::walk::byte_or;
+use room::byte_or;
 use sheet::state::State;
 use sheet::state::bars;
 use sheet::state::before;

@@ -6,8 +6,8 @@ ghost use lib.ListN.{length, drop};
 ghost use lib.Seq.{slice};
 ghost use Rattle.paper.specs.Lists.{until};
 ghost use Rattle.quick.specs.Passed.{numeral, rare, RefAt};
-use markup::values::spells;
-use markup::walk::byte_or;
+use room::byte_or;
+use room::spells;
 
 // Whether a byte is a digit, decimal or hexadecimal in either case.
 fn is_numeral(b: u8, hex: bool) -> bool

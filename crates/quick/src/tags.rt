@@ -3,7 +3,7 @@ ghost use mathlib.Core.Path.{_≡_};
 ghost use Prim.Native.Nat.{_≤_, _<_};
 ghost use lib.ListN.{length};
 ghost use Rattle.quick.specs.Passed.{parentOf, Kid, NameAt};
-use markup::walk::byte_or;
+use room::byte_or;
 
 // The element whose name is that letter where `cur` is open; 0 if there is none.
 pub fn kid(cur: u8, b: u8) -> u8

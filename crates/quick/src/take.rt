@@ -19,8 +19,8 @@ use crate::names::field_by;
 use crate::names::first_in;
 use crate::names::letter_place;
 use crate::value::take_value;
-use markup::walk::byte_or;
 use markup::walk::run;
+use room::byte_or;
 
 // An attribute's name and opening quote: the place of its field among its element's, where its value begins (0: it is not surely fine), and the quote.
 struct Named {

@@ -3,28 +3,18 @@
 use mathlib.Core.Path.{_≡_, refl, ap, sym, _∙_}
 use mathlib.Core.Bool.{Bool, true, false, _&&_}
 use mathlib.Core.List.{List, [], _∷_}
-use Prim.Native.Nat.{ℕ, zero, suc, _+_, _-_, _≤_, _<_}
+use Prim.Native.Nat.{ℕ, zero, suc, _+_, _≤_, _<_}
 use native.Mathlib.Numerals.{add-one}
 use native.Mathlib.Omega.{arith}
 use lib.Dec.{leb}
 use lib.ListN.{length, take, drop, getD, drop-of-length-le}
 use lib.Seq.{drop-cons}
-use borrow.Author.Tests.{leb-true, leb-false, le-leb, lt-leb}
+use borrow.Author.Tests.{leb-true, le-leb, lt-leb}
 use Rattle.paper.specs.Calls.{inside, pagesAt, roomy, rowRoom, textRoom}
 use Rattle.paper.proofs.Small.{both}
 use Rattle.paper.proofs.CallLaws.{inside-true}
 use Rattle.fields.proofs.RuleLaws.{and-false}
 use Rattle.plan.specs.Numbers.{rowsLent}
-
--- ---- one page
-
--- a page lies in the buffer just if it is no longer than what is left from its start on
-pub lies : (size start len : ℕ) → start ≤ size → leb len (size - start) ≡ leb (start + len) size
-lies size start len h = at (leb len (size - start)) refl
-  where
-    at : (b : Bool) → leb len (size - start) ≡ b → leb len (size - start) ≡ leb (start + len) size
-    at true e = let l = leb-true len (size - start) e in e ∙ sym (le-leb (start + len) size (omega arith))
-    at false e = let l = leb-false len (size - start) e in e ∙ sym (lt-leb (start + len) size (omega arith))
 
 -- ---- the loop over the pages
 

@@ -18,9 +18,9 @@ use Rattle.paper.specs.Calls.{inside, pagesAt}
 use Rattle.paper.specs.Layout.{headValues, rowValues, rowsValues, textOf}
 use Rattle.paper.proofs.Small.{no}
 use Rattle.paper.proofs.CallLaws.{inside-true, pages-count}
-use Rattle.markup.specs.Laid.{laid}
+use Rattle.room.specs.Laid.{laid}
 use Rattle.markup.specs.Walk.{tagsAt}
-use Rattle.markup.proofs.LaidLaws.{Laying, start, next-piece, all-laid}
+use Rattle.room.proofs.LaidLaws.{Laying, start, next-piece, all-laid}
 use Rattle.plan.specs.Numbers.{rowNumbers, rowsNumbers, planNumbers, planRows}
 use Rattle.plan.specs.declared.Span as Code
 use Rattle.plan.specs.declared.Plan as Numbers

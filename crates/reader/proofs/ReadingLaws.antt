@@ -28,7 +28,7 @@ use Rattle.paper.proofs.Rooms.{rooms}
 use Rattle.markup.specs.Walk.{tagsAt}
 use Rattle.plan.specs.Numbers.{rowsLent, planNumbers, planRows}
 use Rattle.plan.specs.Records.{emptyPlan}
-use Rattle.markup.specs.Laid.{laid}
+use Rattle.room.specs.Laid.{laid}
 use Rattle.sheet.specs.Content.{contentOf}
 use Rattle.sheet.specs.Judged.{verdictOf}
 use Rattle.reader.specs.Answers.{numbersOf, toldOf, PageRefusal}

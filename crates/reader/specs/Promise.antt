@@ -10,7 +10,7 @@ use Rattle.paper.specs.Reading.{numbers}
 use Rattle.paper.specs.Plan as Said
 use Rattle.paper.specs.Layout.{textOf}
 use Rattle.paper.specs.Calls.{readCall}
-use Rattle.markup.specs.Laid.{laid}
+use Rattle.room.specs.Laid.{laid}
 use Rattle.plan.specs.Numbers.{rowsLent, planNumbers, planRows}
 use Rattle.plan.specs.Records.{emptyPlan}
 use Rattle.reader.specs.Answers.{numbersOf}

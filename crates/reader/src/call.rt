@@ -1,23 +1,13 @@
 // Whether a call is well made: refusal 1 of document 01, before any page is looked at.
 ghost use mathlib.Core.Path.{_≡_};
 ghost use mathlib.Core.Bool.{_&&_};
-ghost use Prim.Native.Nat.{_+_};
 ghost use lib.Dec.{leb};
 ghost use lib.ListN.{length};
 ghost use Rattle.paper.specs.Calls.{inside, roomy};
 ghost use Rattle.plan.specs.Numbers.{rowsLent};
 use plan::rooms::rows_fit;
 use plan::rooms::text_fits;
-
-// Whether a page of that start and length lies in a buffer of so many bytes. No start and no length is too large to ask for.
-pub fn lies_in(size: usize, start: usize, len: usize) -> bool
-    ensures { λ r. ⌜ r ≡ leb (start + len) size ⌝ }
-{
-    if start > size {
-        return false;
-    }
-    len <= size - start
-}
+use room::lies_in;
 
 // Whether there are as many starts as lengths, and every page lies in the buffer.
 fn all_inside(buffer: &[u8], starts: &[usize], lens: &[usize]) -> bool

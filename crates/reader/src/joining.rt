@@ -8,7 +8,7 @@ ghost use Rattle.paper.specs.Reading.{joined, rowsAt};
 ghost use Rattle.paper.specs.Calls.{rowRoom, textRoom, inside, pagesAt};
 ghost use Rattle.paper.specs.Layout.{textOf, rowsValues};
 ghost use Rattle.plan.specs.Numbers.{planNumbers, planRows};
-ghost use Rattle.markup.specs.Laid.{laid};
+ghost use Rattle.room.specs.Laid.{laid};
 ghost use Rattle.page.specs.Laying.{Room, Fills};
 ghost use Rattle.reader.specs.Pages.{nosOf};
 ghost use Rattle.reader.specs.Joining.{said, sheetAt, likeFirst, firstOther, countSaid, planIn, noPlan};

@@ -1,3 +1,5 @@
--- The laws of writing into a lent room, and of spans among numbers.
+-- The laws of laying, comparing and copying. What each file is for stands in its first line.
+pub mod LaidLaws
 pub mod Pieces
-pub mod Parts
+pub mod Copied
+pub mod Compared

@@ -1,3 +1,5 @@
--- What the contracts of functions that write cite: `Written` for bytes that are written into a lent room, `Numbered` for values whose spans stand among numbers.
+-- What the contracts of functions that write into a lent room cite: `Laid` for the room that they leave, `Written` for a room and the place behind what
+-- was written, `Numbered` for spans that stand among numbers.
+pub mod Laid
 pub mod Written
 pub mod Numbered

@@ -20,7 +20,7 @@ use Rattle.paper.specs.Rules.{settle, isZero, keeps, obeys}
 use Rattle.paper.specs.Plan.{Slots, slot}
 use Rattle.paper.specs.Judging.{names, slotsOf, breaks, broken, missing, clash, mpVersion, mpOver, mpHalf}
 use Rattle.paper.proofs.Small.{no, both, neither, if-same, below-at}
-use Rattle.markup.specs.Laid.{laid}
+use Rattle.room.specs.Laid.{laid}
 use Rattle.fields.specs.Places.{kindAt, noField, ruleAt, fieldAt, placeIn, firstOf, countOf, onesOf, othersOf}
 use Rattle.fields.specs.Columns.{ruleColumn, mustColumn}
 use Rattle.fields.proofs.TableLaws.{field-at, code-back}

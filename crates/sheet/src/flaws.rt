@@ -28,7 +28,7 @@ use fields::lookup::rules;
 use fields::lookup::tildes;
 use fields::rules::keeps_in;
 use markup::values::decode;
-use markup::values::spells;
+use room::spells;
 
 // The numbers of the elements MP and M.
 const PLAN: u8 = 1;

@@ -14,7 +14,7 @@ use Rattle.paper.proofs.Small.{no, both}
 use Rattle.plan.specs.Numbers.{recordAt, showHead, showRow, showRows, showPlan, headInText, inText, knownKind, spareAbsent, fitRecord, fitRows}
 use Rattle.plan.specs.declared.Plan.{Plan}
 use Rattle.plan.proofs.Shown.{unknown-refused}
-use Rattle.plan.proofs.Stores.{records-behind}
+use Rattle.plan.proofs.Records.{records-behind}
 use Rattle.sound.specs.Sound.{headSound, recordSound, recordsSound, firstBadIn, numbersSound, badPlace}
 use Rattle.sound.proofs.RecordLaws.{so-not}
 use Rattle.sound.proofs.SoundLaws.{each-sound, each-shown, each-fit, plan-sound}

@@ -13,7 +13,7 @@ use Rattle.paper.specs.Writing.{soundHead, soundRow, sound}
 use Rattle.paper.proofs.Small.{both, no}
 use Rattle.plan.specs.Numbers.{recordAt, showHead, showRow, showRows, showPlan, headInText, fitRecord, fitRows}
 use Rattle.plan.specs.declared.Plan.{Plan}
-use Rattle.plan.proofs.Stores.{records-behind}
+use Rattle.plan.proofs.Records.{records-behind}
 use Rattle.sound.specs.Sound.{headSound, recordSound, recordsSound, firstBadIn, numbersSound}
 
 -- counted from 1 or above, no row is the first bad one just when all are sound

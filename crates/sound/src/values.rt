@@ -12,16 +12,10 @@ ghost use Rattle.sound.specs.Judged.{fineSpan};
 use fields::dose::is_zero;
 use fields::numbers::spell;
 use fields::rules::keeps_in;
+use room::wide;
 
 // The place of M.p, the package number, in the table.
 const PACKAGE: usize = 33;
-
-// A number of 32 bits as one of the machine's width.
-fn wide(x: u32) -> usize
-    ensures { λ r. ⌜ r ≡ x ⌝ }
-{
-    x as usize
-}
 
 // Whether a value ends with a space, which reading would cut.
 fn ends_blank(v: &[u8]) -> bool

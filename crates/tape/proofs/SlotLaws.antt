@@ -11,9 +11,9 @@ use borrow.Author.Tests.{lt-ltb, le-ltb}
 use Rattle.paper.specs.Lists.{concat}
 use Rattle.paper.specs.Fields.{Kind, code, fieldsOf}
 use Rattle.paper.specs.Plan.{Slots}
-use Rattle.markup.specs.Laid.{laid}
+use Rattle.room.specs.Laid.{laid}
 use Rattle.plan.proofs.Shown.{concat-append}
-use Rattle.plan.proofs.Stores.{laid-before}
+use Rattle.room.proofs.LaidLaws.{laid-before}
 use Rattle.tape.specs.Tape.{elem, header, aside, shownIn, valuesAt, Span, Spans}
 use Rattle.tape.specs.Making.{LaysSlots, LaysElem}
 use Rattle.tape.proofs.TapeLaws.{Agree, take-more, spans-more, values-more}

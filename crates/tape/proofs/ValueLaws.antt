@@ -16,11 +16,11 @@ use Rattle.paper.specs.Fields.{Kind, fieldsOf}
 use Rattle.paper.specs.Rules.{isZero}
 use Rattle.paper.specs.Plan.{Slots}
 use Rattle.paper.proofs.Small.{below-at}
-use Rattle.markup.specs.Laid.{laid}
+use Rattle.room.specs.Laid.{laid}
 use Rattle.fields.specs.Places.{fieldAt, firstOf, countOf, kindAt, ruleAt, ruleNumber}
 use Rattle.fields.proofs.TableLaws.{field-at}
 use Rattle.fields.proofs.RuleLaws.{rule-back}
-use Rattle.plan.proofs.Stores.{laid-before, laid-there}
+use Rattle.room.proofs.LaidLaws.{laid-before, laid-there}
 use Rattle.sheet.specs.declared.found.Raw.{Raw}
 use Rattle.sheet.specs.Found.{noRaw, told, Lie}
 use Rattle.tape.specs.Making.{settled}

@@ -6,7 +6,7 @@ ghost use lib.ListN.{length};
 ghost use lib.Seq.{slice};
 ghost use Rattle.paper.specs.Fields.{code};
 ghost use Rattle.sheet.specs.Content.{kindNamed};
-use markup::values::spells;
+use room::spells;
 
 // The names of the elements that have one of a single letter, by their numbers from 2 on.
 const LETTERS: [u8; 8] = [b'P', b'A', b'O', b'S', b'M', b'W', b'R', b'X'];

@@ -5,7 +5,7 @@ ghost use Prim.Native.Nat.{_+_, _*_, _≤_, _<_};
 ghost use lib.ListN.{length};
 ghost use lib.Seq.{slice};
 ghost use Rattle.paper.specs.Lists.{concat};
-ghost use Rattle.markup.specs.Laid.{laid};
+ghost use Rattle.room.specs.Laid.{laid};
 ghost use Rattle.fields.specs.Places.{kindAt, countOf};
 ghost use Rattle.sheet.specs.Found.{Lie, told};
 ghost use Rattle.tape.specs.Making.{settled, LaysSlots};
@@ -15,7 +15,7 @@ use fields::lookup::count_of;
 use fields::lookup::first_of;
 use fields::lookup::rule_of;
 use markup::values::decode;
-use markup::values::lay;
+use room::lay;
 use sheet::found::Raw;
 
 // A start from here on says that the value lies in the side room.

@@ -25,7 +25,7 @@ use Rattle.paper.proofs.Causes.{NoSuchCell}
 use Rattle.paper.proofs.CellLaws as CellLaws
 use Rattle.paper.proofs.CellLaws.{Limit, limit-roomy, DoseCell, RowAt, row-one, own, plans, catalogues, Part, whole, begun, begins-near, begins-some, is-cell, no-cell, part-of, whole-again, no-catalogue, never-cut, flagged}
 use Rattle.paper.proofs.CellRoom.{cell-fits}
-use Rattle.markup.specs.Laid.{laid}
+use Rattle.room.specs.Laid.{laid}
 use Rattle.cell.specs.Numbered.{fieldOf}
 use Rattle.cell.specs.Answers.{sourceNumber}
 use Rattle.cell.specs.declared.answer.Source.{Source}

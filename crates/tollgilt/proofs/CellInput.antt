@@ -20,7 +20,7 @@ use Rattle.paper.specs.Calls.{readAt}
 use Rattle.paper.proofs.Small.{below-at}
 use Rattle.paper.proofs.Rooms.{line-length, refusal-short}
 use Rattle.paper.proofs.CellRoom.{cell-fits, left-short}
-use Rattle.markup.specs.Laid.{laid}
+use Rattle.room.specs.Laid.{laid}
 use Rattle.listing.specs.Split.{toZero}
 use Rattle.room.specs.Written.{Wrote}
 use Rattle.listing.proofs.Fielded.{print-append}

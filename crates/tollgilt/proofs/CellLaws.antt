@@ -25,7 +25,7 @@ use Rattle.paper.proofs.Causes.{no-row}
 use Rattle.paper.proofs.ReadSound.{read-sound}
 use Rattle.paper.proofs.CellLaws.{no-cell}
 use Rattle.paper.proofs.CellRoom.{cell-fits}
-use Rattle.markup.specs.Laid.{laid}
+use Rattle.room.specs.Laid.{laid}
 use Rattle.plan.specs.Numbers.{recordAt, showRows, absent, fitRows, planRows}
 use Rattle.plan.proofs.Shown.{rows-size, rows-shown, sound-back, plan-fit}
 use Rattle.listing.proofs.Rowed.{row-inside}

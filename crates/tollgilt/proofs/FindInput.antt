@@ -21,7 +21,7 @@ use Rattle.paper.specs.Index.{holds, holdersFrom, holders}
 use Rattle.paper.specs.Plan.{Row}
 use Rattle.paper.proofs.Rooms.{line-length, count-short, refusal-short}
 use Rattle.paper.proofs.ReadSound.{read-sound}
-use Rattle.markup.specs.Laid.{laid}
+use Rattle.room.specs.Laid.{laid}
 use Rattle.fields.specs.Sets.{inSet}
 use Rattle.listing.specs.Split.{toZero}
 use Rattle.listing.proofs.Fielded.{print-append}

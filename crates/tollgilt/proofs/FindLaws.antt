@@ -14,7 +14,7 @@ use Rattle.paper.specs.Reading.{Numbers}
 use Rattle.paper.specs.Calls.{rowRoom, readAt, findCall}
 use Rattle.paper.specs.Index as Asked
 use Rattle.paper.specs.Index.{pairRoom, holders, replyOf}
-use Rattle.markup.specs.Laid.{laid}
+use Rattle.room.specs.Laid.{laid}
 use Rattle.reader.specs.Answers.{numbersOf, told}
 use Rattle.reader.specs.Promise as Reads
 use Rattle.reader.specs.declared.answer.Answer.{Answer}

@@ -17,7 +17,7 @@ use Rattle.paper.specs.Listing.{parted, refusalLines}
 use Rattle.paper.specs.Calls.{readAt}
 use Rattle.paper.proofs.Rooms.{refusal-short}
 use Rattle.paper.proofs.Writer.{room}
-use Rattle.markup.specs.Laid.{laid}
+use Rattle.room.specs.Laid.{laid}
 use Rattle.tollgilt.specs.Fresh.{Answer, refusal, pages, writes, afresh, answered, given, bytesTold, pagesIn}
 use Rattle.tollgilt.specs.Printed as Printing
 use Rattle.tollgilt.specs.Printed.{separated, freshLines, planfresh, prints, separatedRoom, freshAnswer, lengthOf, lengthTold, Prints}

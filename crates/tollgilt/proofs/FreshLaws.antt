@@ -22,7 +22,7 @@ use Rattle.paper.proofs.Small.{no, and-intro}
 use Rattle.paper.proofs.AnyOrder.{isPlan}
 use Rattle.paper.proofs.CallLaws.{startsOf, lengthsOf, reads-pages}
 use Rattle.paper.proofs.Writer.{round-trip, writable, room, is-cut, fewest, same-pages}
-use Rattle.markup.specs.Laid.{laid}
+use Rattle.room.specs.Laid.{laid}
 use Rattle.plan.specs.Numbers.{padded}
 use Rattle.tollgilt.specs.Fresh.{Answer, refusal, pages, writes, afresh, answered, pagesOf, Promised, behind, total, lensTold, startsTold, bytesTold, pagesIn, Begins}
 use Rattle.tollgilt.specs.declared.fresh.Fresh.{Fresh}

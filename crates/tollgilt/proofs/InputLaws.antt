@@ -18,7 +18,7 @@ use Rattle.paper.proofs.Small.{no, both}
 use Rattle.paper.proofs.Causes.{many}
 use Rattle.paper.proofs.CallLaws.{reads-pages, Agree, only-pages, one}
 use Rattle.paper.proofs.Rooms.{answer-fits}
-use Rattle.markup.specs.Laid.{laid}
+use Rattle.room.specs.Laid.{laid}
 use Rattle.listing.specs.Split.{startsFrom, lengths}
 use Rattle.listing.proofs.Splits.{Split, split-fronts, nine-or-fewer}
 use Rattle.reader.specs.Answers as Read

@@ -9,8 +9,8 @@ use lib.ListN.{length, take, drop, getD, set, length-append, length-drop, drop-o
 use lib.Seq.{drop-cons, getD-take, length-take-le}
 use Rattle.paper.specs.Lists.{concat}
 use Rattle.paper.specs.Calls.{pagesAt}
-use Rattle.markup.specs.Laid.{laid}
-use Rattle.markup.proofs.LaidLaws.{Laying, start, told, next-piece, next-byte, all-laid}
+use Rattle.room.specs.Laid.{laid}
+use Rattle.room.proofs.LaidLaws.{Laying, start, told, next-piece, next-byte, all-laid}
 use Rattle.room.proofs.Pieces.{fits, wrote, room-kept, both-written, written-whole}
 use Rattle.tollgilt.specs.Fresh.{behind, total}
 use Rattle.tollgilt.specs.Printed.{zeroThen, separated}

@@ -20,7 +20,7 @@ use Rattle.paper.proofs.Small.{both}
 use Rattle.paper.proofs.CallLaws.{two-to-twelve}
 use Rattle.paper.proofs.ReadSound.{read-sound}
 use Rattle.paper.proofs.Rooms.{rooms}
-use Rattle.markup.specs.Laid.{laid}
+use Rattle.room.specs.Laid.{laid}
 use Rattle.plan.specs.Numbers.{rowsLent, showPlan, headInText, fitRows, planRows}
 use Rattle.plan.proofs.Shown.{sound-back}
 use Rattle.reader.specs.Answers.{numbersOf, told}

@@ -26,7 +26,7 @@ use Rattle.collector.specs.declared.store.Collector.{Collector}
 use Rattle.collector.specs.declared.adding.Adding.{Adding}
 use Rattle.collector.specs.declared.adding.Answer as Added
 use Rattle.collector.proofs.KeepLaws.{add-stays, add-bytes-stays}
-use Rattle.markup.specs.Laid.{laid}
+use Rattle.room.specs.Laid.{laid}
 use Rattle.index.specs.Pairs.{flat, rowsIn}
 use Rattle.index.specs.Answers as Index
 use Rattle.index.specs.Promise as Indexes

@@ -11,7 +11,7 @@ use Rattle.paper.specs.Lists.{if, isEmpty}
 use Rattle.paper.specs.Reading as Paper
 use Rattle.paper.specs.Cells.{CellField, Cell, cell, noCell, cellIn}
 use Rattle.paper.specs.Calls.{cellCall}
-use Rattle.markup.specs.Laid.{laid}
+use Rattle.room.specs.Laid.{laid}
 use Rattle.cell.specs.Numbered.{fieldOf}
 use Rattle.cell.specs.Answers.{sourceNumber, textOf}
 use Rattle.cell.specs.declared.answer.Source.{Source}

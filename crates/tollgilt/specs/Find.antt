@@ -8,7 +8,7 @@ use lib.ListN.{length}
 use Rattle.paper.specs.Reading as Paper
 use Rattle.paper.specs.Calls.{findCall}
 use Rattle.paper.specs.Index.{holders}
-use Rattle.markup.specs.Laid.{laid}
+use Rattle.room.specs.Laid.{laid}
 use Rattle.reader.specs.Answers.{numbersOf, told}
 use Rattle.index.specs.declared.answer.Reply as Index
 use Rattle.tollgilt.specs.declared.find.Found.{Found}

@@ -9,7 +9,7 @@ use Rattle.paper.specs.Lists.{concat}
 use Rattle.paper.specs.Reading as Paper
 use Rattle.paper.specs.Writing.{Written, badCall, unsound, tooLong, written, fresh}
 use Rattle.paper.specs.Calls.{pagesAt, freshCall}
-use Rattle.markup.specs.Laid.{laid}
+use Rattle.room.specs.Laid.{laid}
 use Rattle.plan.specs.Numbers.{padded}
 use Rattle.tollgilt.specs.declared.fresh.Fresh.{Fresh}
 

@@ -14,7 +14,7 @@ use Rattle.paper.specs.Reading as Paper
 use Rattle.paper.specs.Reading.{Numbers, numbers, read}
 use Rattle.paper.specs.Listing.{Line, line, numeral, print, parted, refusalLines, planlist}
 use Rattle.paper.specs.Index.{holders}
-use Rattle.markup.specs.Laid.{laid}
+use Rattle.room.specs.Laid.{laid}
 use Rattle.listing.specs.Split.{toZero}
 use Rattle.cell.specs.Numbered.{fieldOf}
 use Rattle.cell.specs.Answers.{sourceNumber}

@@ -8,7 +8,7 @@ use lib.ListN.{length}
 use Rattle.paper.specs.Reading as Paper
 use Rattle.paper.specs.Listing.{listing}
 use Rattle.paper.specs.Calls.{listCall}
-use Rattle.markup.specs.Laid.{laid}
+use Rattle.room.specs.Laid.{laid}
 use Rattle.reader.specs.Answers.{numbersOf, told}
 use Rattle.tollgilt.specs.declared.list.Listed.{Listed}
 

@@ -11,12 +11,12 @@ use cell::answer::Answer;
 use cell::answer::source_number;
 use cell::cell_answer;
 use cell::cell_text;
-use markup::values::lay;
 use plan::Plan;
 use reader::answer::refusal_number;
 use reader::answer::refusal_page;
 use reader::answer::refusal_place;
 use reader::reading::read;
+use room::lay;
 
 // What a printed cell gives: the number, page and place of a refusal, all 0 for a cell; where its text comes from, 1 the plan, 2 the catalogue, 0 neither; how many
 // bytes the text has, whether "..." follows, how many bytes were left out, and whether 0 is printed. A refusal has 0 and false for all of these.

@@ -8,7 +8,7 @@ ghost use Rattle.paper.specs.Calls.{readAt};
 ghost use Rattle.paper.specs.Lists.{bytes};
 ghost use Rattle.paper.specs.Listing.{line, numeral, print, parted};
 ghost use Rattle.paper.specs.Reading.{read};
-ghost use Rattle.markup.specs.Laid.{laid};
+ghost use Rattle.room.specs.Laid.{laid};
 ghost use Rattle.room.specs.Written.{Wrote};
 ghost use Rattle.tollgilt.specs.Fresh.{bytesTold, pagesIn};
 ghost use Rattle.tollgilt.specs.Printed.{separated, heldLines, foundIn, asked, shownLines, cellPrinted, cellBehind, Asks, listAnswer, freshAnswer, findAnswer, cellAnswer, lengthOf, Prints};
@@ -28,12 +28,12 @@ use listing::lines::text_line;
 use listing::pages::next_page;
 use listing::pages::split_pages;
 use listing::refusals::list_refusal;
-use markup::values::lay;
 use plan::Plan;
 use plan::rooms::listing_fits;
 use reader::answer::refusal_number;
 use reader::answer::refusal_page;
 use reader::answer::refusal_place;
+use room::lay;
 
 // The most bytes of an input that count.
 pub const INPUT: usize = 12609;

@@ -19,9 +19,9 @@ use Rattle.paper.specs.Writing.{goodElement, soundRow, decimal, noneOf, printAt
 use Rattle.paper.proofs.Small.{no, unequal, both, neither}
 use Rattle.paper.proofs.Element.{good-slots, good-whole}
 use Rattle.paper.proofs.Rows.{row}
-use Rattle.fields.specs.Places.{fieldAt, nameOf}
+use Rattle.fields.specs.Places.{fieldAt, nameOf, fieldsFrom}
 use Rattle.fields.specs.Columns.{keyColumn}
-use Rattle.plan.specs.Numbers.{recordAt, spanIn, spansIn, spansOf, kindShown, before, toLast, rowWith, showRow, paperSpan, absent, within, inText, knownKind, spareAbsent}
+use Rattle.plan.specs.Numbers.{recordAt, spanIn, spansIn, spansOf, kindShown, before, toLast, rowWith, showRow, paperSpan, absent, within, inText, knownKind, spareAbsent, spanPlace}
 use Rattle.plan.specs.Records.{paperKind, codeKind, doseIn, paperDose, codeSpanIn, timesIn}
 use Rattle.plan.specs.declared.Times.{Times}
 use Rattle.plan.specs.declared.Kind as Code
@@ -29,8 +29,9 @@ use Rattle.plan.specs.declared.Dose.the-variants.{Scheme, Free, Unstated}
 use Rattle.plan.proofs.Parts.{kind-is}
 use Rattle.plan.proofs.Doses.{shows, each-span, dose-is}
 use Rattle.sound.specs.Sound.{recordSound}
-use Rattle.room.specs.Numbered.{spanAt, spansAt, fieldsFrom, spanPlace}
-use Rattle.room.proofs.Parts.{part-of-row, spans-inside, row-fields}
+use Rattle.room.specs.Numbered.{spanAt, spansAt}
+use Rattle.plan.proofs.Numbered.{part-of-row, spans-inside}
+use Rattle.fields.proofs.Parts.{row-fields}
 use Rattle.writer.specs.Spelling.{rowText}
 use Rattle.writer.specs.Tags.{attribute, fieldsText, tagText, doseText, doseWithin, substanceText, endText, medicationText}
 use Rattle.writer.proofs.Spelled.{attrs-step, attrs-are, fields-parted, key-name, span-of, spans-parted}

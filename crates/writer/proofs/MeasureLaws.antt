@@ -26,7 +26,7 @@ use Rattle.plan.specs.Numbers.{recordAt, showRow, showRows, kindShown}
 use Rattle.plan.specs.Records.{paperKind, codeKind}
 use Rattle.plan.proofs.Shown.{rows-shown, row-next}
 use Rattle.plan.proofs.Parts.{kind-is}
-use Rattle.markup.specs.Laid.{laid}
+use Rattle.room.specs.Laid.{laid}
 use Rattle.writer.specs.Spelling.{rowText, peopleText}
 use Rattle.writer.specs.Tags.{gapText, placedText, rowsPlaced, Stays}
 use Rattle.writer.specs.Cutting.{measureOf, sizeIn}

@@ -12,7 +12,7 @@ use Rattle.paper.specs.Plan.{Head, Row}
 use Rattle.paper.specs.Writing.{page, pages}
 use Rattle.plan.specs.Numbers.{showRows, padded}
 use Rattle.plan.proofs.Shown.{rows-shown}
-use Rattle.markup.specs.Laid.{laid}
+use Rattle.room.specs.Laid.{laid}
 use Rattle.room.specs.Written.{Wrote}
 use Rattle.room.proofs.Pieces.{Going, going-start, going-fits, going-on, going-done, fits-whole}
 use Rattle.writer.specs.Spelling.{rowsBetween}

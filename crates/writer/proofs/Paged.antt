@@ -19,8 +19,10 @@ use Rattle.plan.proofs.Spans.{flat-long}
 use Rattle.plan.proofs.Doses.{all-empty}
 use Rattle.sound.specs.Sound.{headSound}
 use Rattle.sound.specs.Judged.{absentFrom}
-use Rattle.room.specs.Numbered.{spansAt, fieldsFrom}
-use Rattle.room.proofs.Parts.{head-fields, part-shown, part-every, two-first}
+use Rattle.room.specs.Numbered.{spansAt}
+use Rattle.fields.specs.Places.{fieldsFrom}
+use Rattle.fields.proofs.Parts.{head-fields}
+use Rattle.plan.proofs.Numbered.{part-shown, part-every, two-first}
 use Rattle.writer.specs.Spelling.{rowText, peopleText, headText}
 use Rattle.writer.specs.Tags.{attribute, fieldsText, tagText, startText, measuresPart, gapText, placedText}
 use Rattle.writer.proofs.Spelled.{esc-digit, attrs-are}

@@ -18,16 +18,16 @@ use Rattle.paper.specs.Plan.{Slots}
 use Rattle.paper.specs.Layout.{Span, shown, shownAll}
 use Rattle.paper.specs.Writing.{attrsOf, printAttrs, digitsOf, decimal}
 use Rattle.paper.proofs.Small.{both}
-use Rattle.markup.specs.Laid.{laid}
-use Rattle.fields.specs.Places.{noField, fieldAt, nameOf}
+use Rattle.room.specs.Laid.{laid}
+use Rattle.fields.specs.Places.{noField, fieldAt, nameOf, fieldsFrom}
 use Rattle.fields.specs.Columns.{keyColumn}
 use Rattle.fields.proofs.ColumnLaws.{letters-at, key-length}
 use Rattle.fields.proofs.TableLaws.{letters-back}
 use Rattle.plan.specs.Numbers.{within}
 use Rattle.room.specs.Written.{Wrote}
-use Rattle.room.specs.Numbered.{spanAt, spansAt, fieldsFrom}
+use Rattle.room.specs.Numbered.{spanAt, spansAt}
 use Rattle.room.proofs.Pieces.{Fits, Going, going-fits, going-on, going-done, byte-written}
-use Rattle.room.proofs.Parts.{span-inside}
+use Rattle.plan.proofs.Numbered.{span-inside}
 use Rattle.writer.specs.Tags.{quoted, attribute, fieldsText}
 
 -- ---- pieces

@@ -9,7 +9,7 @@ use lib.ListN.{take, drop}
 use Rattle.paper.specs.Lists.{if}
 use Rattle.paper.specs.Plan.{Row}
 use Rattle.plan.specs.Numbers.{showRow, showRows}
-use Rattle.plan.proofs.Stores.{records-behind}
+use Rattle.plan.proofs.Records.{records-behind}
 use Rattle.sound.specs.Sound.{recordSound, firstBadIn}
 
 -- the rows that records show, and those that the records behind them show

@@ -20,7 +20,7 @@ use Rattle.paper.proofs.Writer as Room
 use Rattle.plan.specs.Numbers.{rowsLent, showHead, showRows, showPlan, padded}
 use Rattle.plan.specs.declared.Plan.{Plan}
 use Rattle.plan.proofs.Shown.{rows-shown}
-use Rattle.markup.specs.Laid.{laid}
+use Rattle.room.specs.Laid.{laid}
 use Rattle.sound.proofs.SoundLaws.{no-bad-row, plan-sound}
 use Rattle.sound.specs.Sound.{headSound, recordsSound, firstBadIn}
 use Rattle.writer.specs.Answers.{numbersOf}

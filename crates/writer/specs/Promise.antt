@@ -11,7 +11,7 @@ use Rattle.paper.specs.Lists.{if, concat}
 use Rattle.paper.specs.Reading.{numbers}
 use Rattle.paper.specs.Calls.{rowRoom, pageRoom}
 use Rattle.paper.specs.Writing.{Written, badCall, unsound, tooLong, written, fresh}
-use Rattle.markup.specs.Laid.{laid}
+use Rattle.room.specs.Laid.{laid}
 use Rattle.plan.specs.Numbers.{rowsLent, showPlan, padded}
 use Rattle.plan.specs.declared.Plan.{Plan}
 use Rattle.sound.specs.Sound.{numbersSound, badPlace}

@@ -12,9 +12,10 @@ use Rattle.paper.specs.Layout.{shownAll}
 use Rattle.paper.specs.Writing.{attrsOf, printAttrs, decimal, heading}
 use Rattle.plan.specs.declared.Dose as Code
 use Rattle.plan.specs.declared.Dose.the-variants.{Scheme, Free, Unstated}
-use Rattle.plan.specs.Numbers.{recordAt, paperSpan, absent, within}
+use Rattle.plan.specs.Numbers.{recordAt, paperSpan, absent, within, spanPlace}
 use Rattle.plan.specs.Records.{doseIn, paperDose}
-use Rattle.room.specs.Numbered.{spanAt, spansAt, fieldsFrom, spanPlace}
+use Rattle.room.specs.Numbered.{spanAt, spansAt}
+use Rattle.fields.specs.Places.{fieldsFrom}
 use Rattle.writer.specs.Spelling.{rowText}
 
 -- a name and what stands in quotes behind it

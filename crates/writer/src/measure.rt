@@ -6,7 +6,7 @@ ghost use mathlib.Core.List.{[], map};
 ghost use Prim.Native.Nat.{_+_, _*_, _≤_};
 ghost use lib.ListN.{length, take};
 ghost use Rattle.paper.specs.Writing.{page};
-ghost use Rattle.markup.specs.Laid.{laid};
+ghost use Rattle.room.specs.Laid.{laid};
 ghost use Rattle.fields.specs.Columns.{keyColumn};
 ghost use Rattle.plan.specs.Numbers.{recordAt, showRow, showRows, showHead};
 ghost use Rattle.sound.specs.Sound.{headSound, recordSound, recordsSound};

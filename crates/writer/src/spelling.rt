@@ -19,13 +19,13 @@ use crate::tags::lay_field;
 use crate::tags::lay_fields;
 use crate::tags::lay_number;
 use crate::tags::lay_tag;
-use markup::values::lay;
 use plan::Dose;
 use plan::Kind;
 use plan::Plan;
 use plan::head_numbers;
 use plan::kind_at;
 use plan::row_at;
+use room::lay;
 use sound::elements::all_absent;
 
 // Places in the table: U of MP, and the first fields of P, A, O and S; of M a, the four times of day, the free text and du; the first fields of W, R and X.

@@ -11,7 +11,7 @@ ghost use Rattle.paper.specs.Lists.{bytes, every};
 ghost use Rattle.paper.specs.Values.{esc, escape};
 ghost use Rattle.paper.specs.Layout.{shown};
 ghost use Rattle.paper.specs.Writing.{decimal};
-ghost use Rattle.markup.specs.Laid.{laid};
+ghost use Rattle.room.specs.Laid.{laid};
 ghost use Rattle.fields.specs.Places.{nameOf};
 ghost use Rattle.fields.specs.Columns.{keyColumn};
 ghost use Rattle.plan.specs.Numbers.{within, paperSpan};
@@ -22,6 +22,7 @@ use fields::names::lay_name;
 use fields::numbers;
 use markup::values;
 use plan::Span;
+use room::lay;
 
 // 0 for a byte of a value that is spelled as it is, else 1.
 fn grows(b: u8) -> u8
@@ -78,7 +79,7 @@ fn lay_attribute(
 {
     out[at] = 32;
     let a = lay_name(letters, out, at + 1);
-    let b = values::lay(out, a, b"=\"");
+    let b = lay(out, a, b"=\"");
     let c = lay_value(out, b, text, from, to);
     out[c] = 34;
     c + 1
@@ -139,7 +140,7 @@ pub fn lay_number(out: &mut [u8], at: usize, n: u32) -> usize
     if n == 0 {
         return at;
     }
-    let a = values::lay(out, at, b" p=\"");
+    let a = lay(out, at, b" p=\"");
     let b = numbers::spell(n, out, a);
     out[b] = 34;
     b + 1
@@ -165,7 +166,7 @@ pub fn lay_tag(
         × (at + length (tagText (now begin) first count (now text) from (now numbers) (now end)) ≤ length (now out)) ⌝ }
     ensures { λ r. ⌜ Wrote (now (out .entry)) (now (out .exit)) at r (tagText (now (begin .entry)) first count (now (text .entry)) from (now (numbers .entry)) (now (end .entry))) ⌝ }
 {
-    let a = values::lay(out, at, begin);
+    let a = lay(out, at, begin);
     let b = lay_fields(out, a, keys, first, count, text, numbers, from);
-    values::lay(out, b, end)
+    lay(out, b, end)
 }

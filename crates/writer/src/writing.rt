@@ -9,7 +9,7 @@ ghost use Rattle.paper.specs.Lists.{concat};
 ghost use Rattle.paper.specs.Fields.{S, is};
 ghost use Rattle.paper.specs.Calls.{pageRoom};
 ghost use Rattle.paper.specs.Writing.{pages};
-ghost use Rattle.markup.specs.Laid.{laid};
+ghost use Rattle.room.specs.Laid.{laid};
 ghost use Rattle.plan.specs.Numbers.{rowsLent, recordAt, kindShown, showRows, showHead, padded};
 ghost use Rattle.plan.specs.Records.{paperKind, codeKind};
 ghost use Rattle.sound.specs.Sound.{headSound};

@@ -22,7 +22,7 @@ lies : (c : tie.Else1) → let a = c .before .before .before .args in (1 ≤ a .
 lies c = let a = c .before .before .before .args in there (a .rows .now) (a .count) (a .row) (here c)
 
 -- a medication's cell, once it is held against the text
-held-at : (c : tie.After-lies-in) (b : Bool) → c .lies-in .result ≡ b
+held-at : (c : tie.After-is-within) (b : Bool) → c .is-within .result ≡ b
     → let a = c .before .before .before .before .before .before .before .before .before .args in found (a .rows .now) (a .count) (a .size) (a .row) (fieldOf (a .field) (a .which)) ≡ if b (c .before .before .field-cell .result) noneFound
 held-at c b e =
     let F = c .before .before in
@@ -30,7 +30,7 @@ held-at c b e =
     let R = K .before in
     let a = R .before .before .before .before .args in
     found-held (a .rows .now) (a .count) (a .size) (a .row) (fieldOf (a .field) (a .which)) (R .row-at .result) (here (R .before)) (R .row-at .ensures) (F .field-cell .result) b
-    (sym (K .is-medication .ensures) ∙ not-no _ (F .before .if2 .left)) (F .field-cell .ensures) (sym (c .lies-in .ensures) ∙ e)
+    (sym (K .is-medication .ensures) ∙ not-no _ (F .before .if2 .left)) (F .field-cell .ensures) (sym (c .is-within .ensures) ∙ e)
 
 is-there-requires : tie.Need-is-there-requires
 is-there-requires c κs = search needs
@@ -63,8 +63,8 @@ returns-2 c =
 field-cell-requires : tie.Need-field-cell-requires
 field-cell-requires c κs = search needs
 
-lies-in-requires : tie.Need-lies-in-requires
-lies-in-requires c κs = search needs
+is-within-requires : tie.Need-is-within-requires
+is-within-requires c κs = search needs
 
 none-requires-3 : tie.Need-none-requires-3
 none-requires-3 c κs = search needs
@@ -91,7 +91,7 @@ find-spec =
     none-requires-2
     returns-2
     field-cell-requires
-    lies-in-requires
+    is-within-requires
     none-requires-3
     returns-3
     returns-4)

@@ -7,7 +7,7 @@ use lib.ListN.{getD}
 use borrow.Author.Needs.{needs}
 use Rattle.plan.specs.Numbers.{kindShown}
 use Rattle.plan.specs.Records.{codeKind}
-use Rattle.plan.proofs.Stores.{record-number}
+use Rattle.plan.proofs.Records.{record-number}
 use Rattle.plan.proofs.kind_at.Statement.{statement}
 use Rattle.plan.proofs.kind_at.Tie as tie
 

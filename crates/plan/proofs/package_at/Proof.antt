@@ -3,7 +3,7 @@
 use mathlib.Core.Path.{sym}
 use native.Mathlib.Omega.{arith}
 use borrow.Author.Needs.{needs}
-use Rattle.plan.proofs.Stores.{record-number}
+use Rattle.plan.proofs.Records.{record-number}
 use Rattle.plan.proofs.package_at.Statement.{statement}
 use Rattle.plan.proofs.package_at.Tie as tie
 

@@ -2,7 +2,7 @@
 -- Assumes nothing.
 use mathlib.Core.Path.{sym}
 use borrow.Author.Needs.{needs}
-use Rattle.plan.proofs.Stores.{record-span}
+use Rattle.plan.proofs.Records.{record-span}
 use Rattle.plan.proofs.span_at.Statement.{statement}
 use Rattle.plan.proofs.span_at.Tie as tie
 

@@ -10,7 +10,7 @@ use borrow.Author.Needs.{needs}
 use Rattle.plan.specs.Records.{noSpan, codeSpanIn, textSpan, textsIn}
 use Rattle.plan.specs.Numbers.{recordAt}
 use Rattle.plan.proofs.Parts.{text-below, texts-long, text-at}
-use Rattle.plan.proofs.Stores.{stored, finished}
+use Rattle.room.proofs.Copied.{stored, finished}
 use Rattle.plan.proofs.texts_at.Statement.{statement}
 use Rattle.plan.proofs.texts_at.Tie as tie
 

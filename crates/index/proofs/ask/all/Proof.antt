@@ -6,7 +6,7 @@ use Prim.Native.Nat.{ℕ}
 use native.Mathlib.Nat.{le-trans}
 use borrow.Author.Needs.{needs}
 use Rattle.paper.specs.Index.{replyOf}
-use Rattle.markup.specs.Laid.{laid}
+use Rattle.room.specs.Laid.{laid}
 use Rattle.index.specs.Answers.{Stand, Finds, replied, repliedInto, replyTold, listAfter}
 use Rattle.index.specs.declared.answer.Reply.the-variants.{Held}
 use Rattle.index.proofs.AskLaws.{first-stands, told-none, told-first, told-all, list-short, list-fits}

@@ -7,8 +7,8 @@ use native.Mathlib.Omega.{arith}
 use lib.ListN.{length, take, drop, length-set}
 use lib.Seq.{take-length}
 use borrow.Author.Needs.{needs}
-use Rattle.markup.specs.Laid.{laid}
-use Rattle.plan.proofs.Stores.{stored}
+use Rattle.room.specs.Laid.{laid}
+use Rattle.room.proofs.Copied.{stored}
 use Rattle.index.specs.Pairs.{pairsIn, rowsOf}
 use Rattle.index.proofs.AskLaws.{rows-of-long, row-there}
 use Rattle.index.proofs.ask.lay_rows.Statement.{statement}

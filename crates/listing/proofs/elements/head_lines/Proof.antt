@@ -15,7 +15,7 @@ use Rattle.listing.specs.Numbered.{linesOf, mpLines}
 use Rattle.room.proofs.Pieces.{Fits, fits-as, wrote-as}
 use Rattle.listing.proofs.Fielded.{first-lines, other-lines, lines-written}
 use Rattle.listing.proofs.Flat.{head-by, spans-long}
-use Rattle.room.proofs.Parts.{part-every}
+use Rattle.plan.proofs.Numbered.{part-every}
 use borrow.Author.Needs.{needs}
 use Rattle.listing.proofs.elements.head_lines.Statement.{statement}
 use Rattle.listing.proofs.elements.head_lines.Tie as tie

@@ -4,7 +4,7 @@ use Prim.Native.Nat.{_+_, _≤_}
 use native.Mathlib.Omega.{arith}
 use lib.ListN.{length}
 use Rattle.room.proofs.Pieces.{none-written}
-use Rattle.room.proofs.Parts.{span-inside}
+use Rattle.plan.proofs.Numbered.{span-inside}
 use Rattle.listing.proofs.Fielded.{present-line}
 use borrow.Author.Needs.{needs}
 use Rattle.listing.proofs.lines.field_line.Statement.{statement}

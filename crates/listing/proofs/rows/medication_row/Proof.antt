@@ -7,13 +7,12 @@ use Rattle.paper.specs.Lists.{bytes}
 use Rattle.paper.specs.Fields.{M}
 use Rattle.paper.specs.Writing.{decimal}
 use Rattle.paper.specs.Listing.{line, path, print}
-use Rattle.plan.specs.Numbers.{recordAt}
+use Rattle.plan.specs.Numbers.{recordAt, spanPlace}
 use Rattle.room.specs.Written.{Wrote}
 use Rattle.listing.specs.Numbered.{given, linesOf, substanceLines}
-use Rattle.room.specs.Numbered.{spanPlace}
 use Rattle.room.proofs.Pieces.{Fits}
 use Rattle.listing.proofs.Fielded.{first-lines, other-lines, lines-written}
-use Rattle.room.proofs.Parts.{spans-inside}
+use Rattle.plan.proofs.Numbered.{spans-inside}
 use borrow.Author.Needs.{needs}
 use Rattle.listing.proofs.rows.medication_row.Statement.{statement}
 use Rattle.listing.proofs.rows.medication_row.Tie as tie

@@ -5,10 +5,10 @@ use native.Mathlib.Omega.{arith}
 use Rattle.paper.specs.Lists.{bytes}
 use Rattle.paper.specs.Listing.{line, print}
 use Rattle.listing.specs.Numbered.{linesOf}
-use Rattle.room.specs.Numbered.{spanPlace}
+use Rattle.plan.specs.Numbers.{spanPlace}
 use Rattle.room.proofs.Pieces.{Fits}
 use Rattle.listing.proofs.Fielded.{first-lines, other-lines, lines-written}
-use Rattle.room.proofs.Parts.{spans-inside}
+use Rattle.plan.proofs.Numbered.{spans-inside}
 use borrow.Author.Needs.{needs}
 use Rattle.listing.proofs.rows.plain_row.Statement.{statement}
 use Rattle.listing.proofs.rows.plain_row.Tie as tie

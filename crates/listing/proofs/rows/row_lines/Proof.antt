@@ -11,7 +11,7 @@ use Rattle.listing.specs.Numbered.{plainRow, medicationRow}
 use Rattle.room.proofs.Pieces.{Fits, fits-as, wrote-as}
 use Rattle.plan.proofs.Parts.{kind-is}
 use Rattle.listing.proofs.Rowed.{plain-is, medication-is}
-use Rattle.room.proofs.Parts.{row-fields}
+use Rattle.fields.proofs.Parts.{row-fields}
 use borrow.Author.Needs.{needs}
 use Rattle.listing.proofs.rows.row_lines.Statement.{statement}
 use Rattle.listing.proofs.rows.row_lines.Tie as tie

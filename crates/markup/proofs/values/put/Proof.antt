@@ -1,17 +1,39 @@
 -- `markup::values::put` meets its contract: blanks and byte are what is written and what is left to write.
 -- Assumes nothing.
-use mathlib.Core.Path.{refl}
-use mathlib.Core.List.{[], _∷_, _++_}
-use Prim.Native.Nat.{_+_, _-_, _≤_}
+use mathlib.Core.Path.{_≡_, refl, subst}
+use mathlib.Core.List.{List, [], _∷_, _++_}
+use Prim.Native.Nat.{ℕ, suc, _+_, _-_, _≤_, _<_}
 use native.Mathlib.Nat.{sub-zero}
-use lib.ListN.{replicate}
-use Rattle.markup.proofs.LaidLaws.{Laying, start-at, blank-turn, blanks-done}
+use native.Mathlib.Omega.{arith}
+use lib.ListN.{length, set, replicate}
+use Rattle.room.specs.Laid.{laid}
+use Rattle.room.proofs.LaidLaws.{Laying, start-at, told, next-byte, all-laid}
 use borrow.Author.Needs.{needs}
 use Rattle.markup.proofs.values.put.Statement.{statement}
 use Rattle.markup.proofs.values.put.Tie as tie
 
+-- blanks and then a byte
+abbrev blanksThen : ℕ → ℕ → List ℕ
+blanksThen k v = replicate k 32 ++ (v ∷ [])
+
+-- a blank is stored
+blank-turn : {out₀ out : List ℕ} {n k b : ℕ} (v : ℕ) → n + b < length out₀ → k < b → Laying out₀ out n (n + k) (blanksThen b v) (blanksThen (b - k) v)
+    → Laying out₀ (set out (n + k) 32) n (n + (k + 1)) (blanksThen b v) (blanksThen (b - (k + 1)) v)
+blank-turn {out₀} {out} {n} {k} {b} v f h L =
+    let e : n + (k + 1) ≡ n + k + 1 = omega arith in
+    let q : b - k ≡ suc (b - (k + 1)) = omega arith in
+    rw e (next-byte (told L (rw q)) (omega arith))
+
+-- the byte behind the blanks is stored
+blanks-done : {out₀ out : List ℕ} {n k b : ℕ} (v : ℕ) → n + b < length out₀ → k ≡ b → Laying out₀ out n (n + k) (blanksThen b v) (blanksThen (b - k) v)
+    → set out (n + b) v ≡ laid out₀ n (blanksThen b v)
+blanks-done {out₀} {out} {n} {k} {b} v f e L =
+    let q : b - k ≡ 0 = omega arith in
+    let g : n ≤ length out₀ = omega arith in
+    all-laid g (next-byte (subst (λ (j : ℕ). Laying out₀ out n (n + j) (blanksThen b v) (v ∷ [])) e (told L (rw q))) f) .1
+
 abbrev Inv-loop : tie.InvT-loop
-Inv-loop out₀ n blanks v k₀ out k = (k ≤ blanks) × Laying out₀ out n (n + k) (replicate blanks 32 ++ (v ∷ [])) (replicate (blanks - k) 32 ++ (v ∷ []))
+Inv-loop out₀ n blanks v k₀ out k = (k ≤ blanks) × Laying out₀ out n (n + k) (blanksThen blanks v) (blanksThen (blanks - k) v)
 
 abbrev μ-loop : tie.MeasureT-loop
 μ-loop out₀ n blanks v k₀ out k = blanks - k

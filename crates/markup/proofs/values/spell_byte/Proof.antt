@@ -5,7 +5,7 @@ use Prim.Native.Nat.{_<_}
 use native.Mathlib.Omega.{arith}
 use lib.ListN.{length}
 use borrow.Author.Tests.{eq-eqb, ne-eqb}
-use Rattle.markup.proofs.LaidLaws.{set-laid}
+use Rattle.room.proofs.LaidLaws.{set-laid}
 use borrow.Author.Needs.{needs}
 use Rattle.markup.proofs.values.spell_byte.Statement.{statement}
 use Rattle.markup.proofs.values.spell_byte.Tie as tie

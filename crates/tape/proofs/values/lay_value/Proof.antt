@@ -7,7 +7,7 @@ use native.Mathlib.Nat.{add-zero}
 use lib.ListN.{length, take}
 use lib.Seq.{slice, length-take-le}
 use Rattle.paper.specs.Values.{value}
-use Rattle.markup.specs.Laid.{laid}
+use Rattle.room.specs.Laid.{laid}
 use Rattle.tape.specs.Making.{settled}
 use Rattle.tape.proofs.ValueLaws.{front, laid-none, zero-value, whole-value}
 use borrow.Author.Needs.{needs}

@@ -6,11 +6,10 @@ use mathlib.Core.List.{List}
 use Prim.Native.Nat.{ℕ}
 use native.Mathlib.Omega.{arith}
 use Rattle.paper.specs.Lists.{bytes}
-use Rattle.plan.specs.Numbers.{recordAt, showRow, inText}
+use Rattle.plan.specs.Numbers.{recordAt, showRow, inText, spanPlace}
 use Rattle.plan.specs.Records.{paperKind}
-use Rattle.room.specs.Numbered.{spanPlace}
 use Rattle.room.proofs.Pieces.{Fits, fits, fits-as, wrote-as}
-use Rattle.room.proofs.Parts.{spans-inside}
+use Rattle.plan.proofs.Numbered.{spans-inside}
 use Rattle.writer.specs.Spelling.{rowText}
 use Rattle.writer.specs.Tags.{tagText, medicationText}
 use Rattle.writer.proofs.Bodied.{sound-parts, unknown-never, heading-is, medication-is, recipe-is, note-is}

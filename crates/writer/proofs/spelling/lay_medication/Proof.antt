@@ -8,14 +8,13 @@ use native.Mathlib.Omega.{arith}
 use lib.ListN.{length, getD}
 use Rattle.paper.specs.Lists.{bytes}
 use Rattle.paper.specs.Writing.{decimal}
-use Rattle.plan.specs.Numbers.{recordAt}
+use Rattle.plan.specs.Numbers.{recordAt, spanPlace}
 use Rattle.plan.specs.Records.{doseIn, paperDose, rowIn}
 use Rattle.plan.specs.declared.Dose.{Dose}
 use Rattle.plan.specs.declared.Row.{Row}
 use Rattle.room.specs.Written.{Wrote}
-use Rattle.room.specs.Numbered.{spanPlace}
 use Rattle.room.proofs.Pieces.{Fits, Going, fits, wrote, wrote-as, going-start, going-fits, going-on, room-kept}
-use Rattle.room.proofs.Parts.{spans-inside}
+use Rattle.plan.proofs.Numbered.{spans-inside}
 use Rattle.writer.specs.Tags.{attribute, fieldsText, doseText, doseWithin, endText, medicationText}
 use Rattle.writer.proofs.Spelled.{last-fits, last-on}
 use Rattle.writer.proofs.Bodied.{dose-inside}

@@ -20,7 +20,6 @@ use Rattle.writer.proofs.tags.lay_attribute.Tie as tie
 use Rattle.writer.proofs.tags.lay_attribute.Reads as reads
 use Rattle.writer.proofs.tags.lay_attribute.Lts as lts
 use Rattle.fields.proofs.names.lay_name.Reads as lay-name-reads
-use Rattle.markup.proofs.values.lay.Reads as lay-reads
 use Rattle.writer.proofs.tags.lay_value.Reads as lay-value-reads
 
 -- the value as it is spelled, and the attribute

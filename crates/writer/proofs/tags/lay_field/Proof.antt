@@ -9,7 +9,7 @@ use Rattle.paper.specs.Layout.{shown}
 use Rattle.fields.specs.Places.{nameOf}
 use Rattle.plan.specs.Numbers.{paperSpan}
 use Rattle.room.proofs.Pieces.{none-written}
-use Rattle.room.proofs.Parts.{span-inside}
+use Rattle.plan.proofs.Numbered.{span-inside}
 use Rattle.writer.specs.Tags.{quoted, attribute}
 use Rattle.writer.proofs.Spelled.{span-quoted}
 use borrow.Author.Needs.{needs}

@@ -13,8 +13,8 @@ use borrow.Author.Tests.{eqb-true}
 use borrow.Author.Needs.{needs}
 use Rattle.paper.specs.Values.{esc, escape}
 use Rattle.paper.proofs.Small.{both-zero}
-use Rattle.markup.specs.Laid.{laid}
-use Rattle.markup.proofs.LaidLaws.{Laying, told, next-byte, all-laid}
+use Rattle.room.specs.Laid.{laid}
+use Rattle.room.proofs.LaidLaws.{Laying, told, next-byte, all-laid}
 use Rattle.writer.proofs.tags.lay_plain.Statement.{statement}
 use Rattle.writer.proofs.tags.lay_plain.Tie as tie
 use Rattle.writer.proofs.tags.lay_plain.Reads as reads

@@ -9,7 +9,7 @@ use lib.ListN.{length}
 use lib.Seq.{slice, length-slice}
 use borrow.Author.Needs.{needs}
 use Rattle.paper.specs.Values.{escape}
-use Rattle.markup.specs.Laid.{laid}
+use Rattle.room.specs.Laid.{laid}
 use Rattle.room.specs.Written.{Wrote}
 use Rattle.writer.proofs.Spelled.{escape-long, laid-over}
 use Rattle.writer.proofs.tags.lay_value.Statement.{statement}

@@ -1,12 +1,12 @@
--- `markup::values::lay` meets its contract: the word is what is written and what is left of it.
+-- `room::lay` meets its contract: the word is what is written and what is left of it.
 -- Assumes nothing.
 use mathlib.Core.Path.{_≡_, refl}
 use Prim.Native.Nat.{_+_, _-_, _≤_}
 use lib.ListN.{length, drop, drop-of-length-le}
-use Rattle.markup.proofs.LaidLaws.{Laying, start-at, told, word-turn, all-laid}
+use Rattle.room.proofs.LaidLaws.{Laying, start-at, told, word-turn, all-laid}
 use borrow.Author.Needs.{needs}
-use Rattle.markup.proofs.values.lay.Statement.{statement}
-use Rattle.markup.proofs.values.lay.Tie as tie
+use Rattle.room.proofs.lay.Statement.{statement}
+use Rattle.room.proofs.lay.Tie as tie
 
 abbrev Inv-loop : tie.InvT-loop
 Inv-loop out₀ n word i₀ out i = (i ≤ length word) × Laying out₀ out n (n + i) word (drop i word)

@@ -1,4 +1,4 @@
--- `markup::values::spells` meets its contract: the bytes and the word are the same exactly if what is left of both is.
+-- `room::spells` meets its contract: the bytes and the word are the same exactly if what is left of both is.
 -- Assumes nothing.
 use mathlib.Core.Path.{_≡_, sym, _∙_}
 use Prim.Native.Nat.{_+_, _-_, _≤_}
@@ -6,16 +6,16 @@ use native.Mathlib.Nat.{add-zero}
 use lib.ListN.{length, drop}
 use lib.Seq.{slice}
 use Rattle.paper.specs.Lists.{same}
-use Rattle.markup.proofs.Spells.{other-length, spells-on, spells-off, spells-end}
+use Rattle.room.proofs.Compared.{other-length, spells-on, spells-off, spells-end}
 use borrow.Author.Needs.{needs}
-use Rattle.markup.proofs.values.spells.Statement.{statement}
-use Rattle.markup.proofs.values.spells.Tie as tie
+use Rattle.room.proofs.spells.Statement.{statement}
+use Rattle.room.proofs.spells.Tie as tie
 
 abbrev Inv-loop : tie.InvT-loop
-Inv-loop page from to word i₀ i = (i ≤ length word) × (same (slice from to page) word ≡ same (slice (from + i) to page) (drop i word))
+Inv-loop s from to word i₀ i = (i ≤ length word) × (same (slice from to s) word ≡ same (slice (from + i) to s) (drop i word))
 
 abbrev μ-loop : tie.MeasureT-loop
-μ-loop page from to word i₀ i = length word - i
+μ-loop s from to word i₀ i = length word - i
 
 sub-if1 : tie.Need-sub-if1 Inv-loop μ-loop
 sub-if1 c = search needs
@@ -39,7 +39,7 @@ returns-2 : tie.Need-returns-2 Inv-loop μ-loop
 returns-2 c =
     let L = c .before .before .before .before in
     let a = L .before .before in
-    sym (L .loop .inv .1 ∙ spells-off (a .args .page .now) (a .args .word .now) (a .args .from) (a .args .to) (L .loop .i) (search needs) (a .pre .1) (search needs) (c .if2 .taken))
+    sym (L .loop .inv .1 ∙ spells-off (a .args .s .now) (a .args .word .now) (a .args .from) (a .args .to) (L .loop .i) (search needs) (a .pre .1) (search needs) (c .if2 .taken))
 
 add-i : tie.Need-add-i Inv-loop μ-loop
 add-i c = search needs
@@ -51,13 +51,13 @@ loop-again : tie.Need-loop-again Inv-loop μ-loop
 loop-again c =
     let L = c .before .before .before .before in
     let a = L .before .before in
-    (search needs, L .loop .inv .1 ∙ spells-on (a .args .page .now) (a .args .word .now) (a .args .from) (a .args .to) (L .loop .i) (search needs) (a .pre .1) (search needs) (c .if2 .left))
+    (search needs, L .loop .inv .1 ∙ spells-on (a .args .s .now) (a .args .word .now) (a .args .from) (a .args .to) (L .loop .i) (search needs) (a .pre .1) (search needs) (c .if2 .left))
 
 returns-3 : tie.Need-returns-3 Inv-loop μ-loop
 returns-3 c =
     let L = c .before in
     let a = L .before .before in
-    sym (L .loop .inv .1 ∙ spells-end (a .args .page .now) (a .args .word .now) (a .args .from) (a .args .to) (L .loop .i) (search needs) (c .loop-test .left))
+    sym (L .loop .inv .1 ∙ spells-end (a .args .s .now) (a .args .word .now) (a .args .from) (a .args .to) (L .loop .i) (search needs) (c .loop-test .left))
 
 pub spells-spec : {M : Type 1} → statement M
 spells-spec =

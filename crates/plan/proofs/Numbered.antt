@@ -1,4 +1,4 @@
--- Parts: the spans of a head and of a row, found again among their numbers, and the fields that they are for as parts of the table.
+-- Numbered: the spans of a head and of a row, found again among their numbers.
 -- Assumes nothing.
 use mathlib.Core.Path.{_≡_, refl, sym, ap, _∙_}
 use mathlib.Core.Bool.{Bool, true}
@@ -8,13 +8,12 @@ use native.Mathlib.Omega.{arith}
 use lib.ListN.{length, take, drop, getD}
 use borrow.Author.Tests.{ne-eqb, leb-true}
 use Rattle.paper.specs.Lists.{every}
-use Rattle.paper.specs.Fields.{unknown, P, A, O, S, R, X, W, fieldsOf}
 use Rattle.paper.specs.Layout.{Span, shownAll}
-use Rattle.plan.specs.Numbers.{recordAt, spanIn, spansIn, spansOf, flat, headNumbers, within, inText}
-use Rattle.plan.proofs.Stores.{record-number}
+use Rattle.room.specs.Numbered.{spanAt, spansAt}
+use Rattle.plan.specs.Numbers.{recordAt, spanIn, spansIn, spansOf, spanPlace, flat, headNumbers, within, inText}
+use Rattle.plan.proofs.Records.{record-number}
 use Rattle.plan.proofs.Spans.{shown-part, every-part, spans-part}
 use Rattle.plan.proofs.Spans as Spans
-use Rattle.room.specs.Numbered.{spanAt, spansAt, fieldsFrom, spanPlace}
 
 -- a present span lies within the text
 pub span-inside : (n from len : ℕ) → (len ≡ 0 → ⊥) → within n (record { at = from; len = len }) ≡ true → from + len ≤ n
@@ -50,13 +49,6 @@ part-shown t ss j n h = shown-part t ss j n ∙ ap (shownAll t) (sym (spans-flat
 -- what holds of all spans holds of n of them from span j on
 pub part-every : (p : Span → Bool) (ss : List Span) (j n : ℕ) → j + n ≤ length ss → every p ss ≡ true → every p (spansAt n (2 + 2 * j) (headNumbers ss)) ≡ true
 part-every p ss j n h e = ap (every p) (spans-flat ss j n h) ∙ every-part p ss j n e
-
--- ---- the head
-
--- the fields of P, A and O are parts of the table
-pub head-fields : (fieldsOf P ≡ fieldsFrom 6 8) × (fieldsOf A ≡ fieldsFrom 14 10) × (fieldsOf O ≡ fieldsFrom 24 7)
-unfolding fieldsOf fieldsFrom
-head-fields = (refl, refl, refl)
 
 -- the first two values
 pub two-first : (t : List ℕ) (ss : List Span) → 2 ≤ length ss → getD (shownAll t ss) 0 [] ∷ getD (shownAll t ss) 1 [] ∷ [] ≡ take 2 (shownAll t ss)
@@ -97,8 +89,3 @@ pub part-of-row : (t rows : List ℕ) (i n j : ℕ) → j + n ≤ 19 → take n 
 part-of-row t rows i n j h =
     let z : 0 + j ≡ j = omega arith in
     Spans.part-shown (recordAt rows i) t 19 j n 0 h ∙ ap (λ (k : ℕ). shownAll t (spansIn n k (recordAt rows i))) z ∙ ap (shownAll t) (spans-in-place rows i n j h)
-
--- the fields of a row's elements are parts of the table
-pub row-fields : (fieldsOf S ≡ fieldsFrom 31 2) × (fieldsOf R ≡ fieldsFrom 49 2) × (fieldsOf X ≡ fieldsFrom 51 1) × (fieldsOf W ≡ fieldsFrom 47 2) × (fieldsOf unknown ≡ fieldsFrom 0 0)
-unfolding fieldsOf fieldsFrom
-row-fields = (refl, refl, refl, refl, refl)

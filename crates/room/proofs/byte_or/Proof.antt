@@ -1,10 +1,10 @@
--- `markup::walk::byte_or` meets its contract: behind the last byte stands 0.
+-- `room::byte_or` meets its contract: behind the last byte stands 0.
 -- Assumes nothing.
 use mathlib.Core.Path.{sym}
 use lib.ListN.{List·getD-eq-default}
 use borrow.Author.Needs.{needs}
-use Rattle.markup.proofs.walk.byte_or.Statement.{statement}
-use Rattle.markup.proofs.walk.byte_or.Tie as tie
+use Rattle.room.proofs.byte_or.Statement.{statement}
+use Rattle.room.proofs.byte_or.Tie as tie
 
 shared-slice-read-result : tie.Need-shared-slice-read-result
 shared-slice-read-result c = search needs
@@ -13,7 +13,7 @@ returns : tie.Need-returns
 returns c = search needs
 
 returns-2 : tie.Need-returns-2
-returns-2 c = sym (List·getD-eq-default (c .before .args .page .now) 0 (c .if1 .left))
+returns-2 c = sym (List·getD-eq-default (c .before .args .s .now) 0 (c .if1 .left))
 
 pub byte-or-spec : {M : Type 1} → statement M
 byte-or-spec = tie.close (tie.spec shared-slice-read-result returns returns-2)

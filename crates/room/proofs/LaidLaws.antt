@@ -1,18 +1,51 @@
--- LaidLaws: writing into a lent room piece by piece. What is to be written is what is written and what is left to write; the rest of the room is as it was.
+-- LaidLaws: what stands in a lent room into which something was laid; and writing into it piece by piece, where what is to be written is what is written
+-- and what is left to write.
 -- Assumes nothing.
-use mathlib.Core.Path.{_≡_, refl, sym, ap, _∙_, subst}
+use mathlib.Core.Path.{_≡_, refl, sym, ap, _∙_}
 use mathlib.Core.List.{List, [], _∷_, _++_, append-assoc, append-nil}
-use Prim.Native.Nat.{ℕ, suc, _+_, _-_, _≤_, _<_}
+use Prim.Native.Nat.{ℕ, _+_, _≤_, _<_}
 use native.Mathlib.Nat.{add-zero}
 use native.Mathlib.Numerals.{add-one}
 use native.Mathlib.Omega.{arith}
-use lib.ListN.{length, take, drop, getD, set, replicate, length-append, length-take, length-drop, take-append-drop}
-use lib.Seq.{take-at, drop-at, drop-drop, drop-cons, set-split}
-use Rattle.markup.specs.Laid.{laid}
+use lib.ListN.{length, take, drop, getD, set, length-append, length-take, length-drop, take-append-drop}
+use lib.Seq.{take-at, drop-at, drop-drop, drop-cons, set-split, length-take-le}
+use Rattle.room.specs.Laid.{laid}
 
 -- one byte stored is one byte laid
 pub set-laid : (out : List ℕ) (n x : ℕ) → n < length out → set out n x ≡ laid out n (x ∷ [])
 set-laid out n x h = rw (add-one) (set-split out n x h)
+
+-- ---- the room that is left
+
+module _ (xs p : List ℕ) (at : ℕ) (fits : at + length p ≤ length xs) where
+  before-long : length (take at xs) ≡ at
+  before-long = length-take-le at xs (omega arith)
+
+  -- the list keeps its length
+  pub laid-long : length (laid xs at p) ≡ length xs
+  laid-long = simp (length-append, length-drop) (omega (arith, before-long))
+
+  -- behind its start stand the numbers, and then what stood behind them
+  pub laid-from : drop at (laid xs at p) ≡ p ++ drop (at + length p) xs
+  laid-from = drop-at (take at xs) (p ++ drop (at + length p) xs) at before-long
+
+  -- what stood before is untouched
+  pub laid-before : take at (laid xs at p) ≡ take at xs
+  laid-before = take-at (take at xs) (p ++ drop (at + length p) xs) at before-long
+
+  -- the numbers stand in their place
+  pub laid-there : take (length p) (drop at (laid xs at p)) ≡ p
+  laid-there = rw laid-from (take-at p (drop (at + length p) xs) (length p) refl)
+
+  -- what stood behind is untouched
+  pub laid-behind : drop (at + length p) (laid xs at p) ≡ drop (at + length p) xs
+  laid-behind = sym (drop-drop (length p) at (laid xs at p)) ∙ rw laid-from (drop-at p (drop (at + length p) xs) (length p) refl)
+
+  -- laid over, the first numbers are gone
+  pub laid-over : (q : List ℕ) → length q ≡ length p → laid (laid xs at p) at q ≡ laid xs at q
+  laid-over q e = rw (laid-before, e, laid-behind)
+
+-- ---- piece by piece
 
 -- the room out₀ has become out: `all` is to be laid from `at` on, the place reached is n, and `rest` is still to come
 pub record Laying (out₀ out : List ℕ) (at n : ℕ) (all rest : List ℕ) : Type 0 where
@@ -83,23 +116,3 @@ pub word-turn : {out₀ out word : List ℕ} {n i : ℕ} → n + length word ≤
 word-turn {out₀} {out} {word} {n} {i} f h L =
     let e : n + (i + 1) ≡ n + i + 1 = omega arith in
     rw (e, add-one i) (next-byte (told L (drop-cons word i 0 h)) (omega arith))
-
--- blanks and then a byte
-abbrev pub blanksThen : ℕ → ℕ → List ℕ
-blanksThen k v = replicate k 32 ++ (v ∷ [])
-
--- a blank is stored
-pub blank-turn : {out₀ out : List ℕ} {n k b : ℕ} (v : ℕ) → n + b < length out₀ → k < b → Laying out₀ out n (n + k) (blanksThen b v) (blanksThen (b - k) v)
-    → Laying out₀ (set out (n + k) 32) n (n + (k + 1)) (blanksThen b v) (blanksThen (b - (k + 1)) v)
-blank-turn {out₀} {out} {n} {k} {b} v f h L =
-    let e : n + (k + 1) ≡ n + k + 1 = omega arith in
-    let q : b - k ≡ suc (b - (k + 1)) = omega arith in
-    rw e (next-byte (told L (rw q)) (omega arith))
-
--- the byte behind the blanks is stored
-pub blanks-done : {out₀ out : List ℕ} {n k b : ℕ} (v : ℕ) → n + b < length out₀ → k ≡ b → Laying out₀ out n (n + k) (blanksThen b v) (blanksThen (b - k) v)
-    → set out (n + b) v ≡ laid out₀ n (blanksThen b v)
-blanks-done {out₀} {out} {n} {k} {b} v f e L =
-    let q : b - k ≡ 0 = omega arith in
-    let g : n ≤ length out₀ = omega arith in
-    all-laid g (next-byte (subst (λ (j : ℕ). Laying out₀ out n (n + j) (blanksThen b v) (v ∷ [])) e (told L (rw q))) f) .1

@@ -1,0 +1,69 @@
+-- `room::lay_numbers` meets its contract: the numbers are what is written and what is left of them.
+-- Assumes nothing.
+use mathlib.Core.Path.{_≡_}
+use Prim.Native.Nat.{_+_, _-_, _≤_}
+use lib.ListN.{length, drop, drop-of-length-le}
+use Rattle.room.proofs.LaidLaws.{Laying, start-at, told, word-turn, all-laid}
+use borrow.Author.Needs.{needs}
+use Rattle.room.proofs.lay_numbers.Statement.{statement}
+use Rattle.room.proofs.lay_numbers.Tie as tie
+
+abbrev Inv-loop : tie.InvT-loop
+Inv-loop out₀ n numbers i₀ out i = (i ≤ length numbers) × Laying out₀ out n (n + i) numbers (drop i numbers)
+
+abbrev μ-loop : tie.MeasureT-loop
+μ-loop out₀ n numbers i₀ out i = length numbers - i
+
+loop-holds : tie.Need-loop-holds Inv-loop μ-loop
+loop-holds c = (search needs, start-at (c .args .out .now) (c .args .n) _ (search needs))
+
+mul-out : tie.Need-mul-out Inv-loop μ-loop
+mul-out c = search needs
+
+shared-slice-read-out : tie.Need-shared-slice-read-out Inv-loop μ-loop
+shared-slice-read-out c = search needs
+
+add-out : tie.Need-add-out Inv-loop μ-loop
+add-out c = search needs
+
+mul-out-2 : tie.Need-mul-out-2 Inv-loop μ-loop
+mul-out-2 c = search needs
+
+slice-write-out : tie.Need-slice-write-out Inv-loop μ-loop
+slice-write-out c = search needs
+
+add-i : tie.Need-add-i Inv-loop μ-loop
+add-i c = search needs
+
+loop-less : tie.Need-loop-less Inv-loop μ-loop
+loop-less c = search needs
+
+loop-again : tie.Need-loop-again Inv-loop μ-loop
+loop-again c = let L = c .before .before in (search needs, word-turn (L .before .pre) (search needs) (L .loop .inv .1))
+
+same-length : tie.Need-same-length Inv-loop μ-loop
+same-length c = search needs
+
+returns : tie.Need-returns Inv-loop μ-loop
+returns c =
+    let L = c .before in
+    let e : L .loop .i ≡ length (L .before .args .numbers .now) = search needs in
+    all-laid (search needs) (told (L .loop .inv .1) (drop-of-length-le _ (c .loop-test .left))) .1
+
+pub lay-numbers-spec : {M : Type 1} → statement M
+lay-numbers-spec =
+    tie.close
+    (tie.spec
+    Inv-loop
+    μ-loop
+    loop-holds
+    mul-out
+    shared-slice-read-out
+    add-out
+    mul-out-2
+    slice-write-out
+    add-i
+    loop-less
+    loop-again
+    same-length
+    returns)
