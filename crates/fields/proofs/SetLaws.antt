@@ -4,7 +4,6 @@ use mathlib.Core.Path.{_≡_, refl, sym, ap, _∙_}
 use mathlib.Core.Bool.{Bool, true, false, not, _&&_, _||_}
 use mathlib.Core.List.{List, [], _∷_}
 use Prim.Native.Nat.{ℕ, zero, suc, _+_, _-_, _≤_, _<_}
-use native.Mathlib.Nat.{add-zero}
 use native.Mathlib.Numerals.{add-one}
 use native.Mathlib.Omega.{arith}
 use lib.Dec.{eqb, leb, ltb, leb·suc-suc, leb·suc-zero}
@@ -16,18 +15,6 @@ use Rattle.paper.specs.Rules.{shape, is-byte}
 use Rattle.fields.specs.Sets.{inSet, sets}
 
 -- ---- runs
-
--- the run ends here
-pub run-ends : (p : ℕ → Bool) (s : List ℕ) (i : ℕ) → i < length s → p (getD s i 0) ≡ false → i + until p (drop i s) ≡ i
-run-ends p s i h e = rw (drop-cons s i 0, e, until) (add-zero i)
-
--- the run goes on
-pub run-on : (p : ℕ → Bool) (s : List ℕ) (i : ℕ) → i < length s → p (getD s i 0) ≡ true → i + until p (drop i s) ≡ i + 1 + until p (drop (i + 1) s)
-run-on p s i h e = rw (add-one, drop-cons s i 0, e, until) (omega arith)
-
--- no byte is left
-pub run-over : (p : ℕ → Bool) (s : List ℕ) (i : ℕ) → length s ≤ i → i + until p (drop i s) ≡ i
-run-over p s i h = rw (drop-of-length-le s h) (add-zero i)
 
 -- all bytes are of the set when the run of all has no end before theirs
 pub every-run : (p : ℕ → Bool) (s : List ℕ) → every p s ≡ leb (length s) (until p s)

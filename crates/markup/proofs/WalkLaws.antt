@@ -18,19 +18,6 @@ use Rattle.markup.specs.Walk.{passes, stops, more, nameEnd, quoteAt, raw
 
 -- ---- runs of bytes
 
-module _ (p : ℕ → Bool) (s : List ℕ) (i : ℕ) where
-  -- the run ends here
-  pub hit : i < length s → p (getD s i 0) ≡ false → i + until p (drop i s) ≡ i
-  hit h e = rw (drop-cons s i 0, e, until) (add-zero i)
-
-  -- this byte is in the run
-  pub miss : i < length s → p (getD s i 0) ≡ true → i + until p (drop i s) ≡ i + 1 + until p (drop (i + 1) s)
-  miss h e = rw (add-one, drop-cons s i 0, e, until) (omega arith)
-
-  -- no byte is left
-  pub done : length s ≤ i → i + until p (drop i s) ≡ i
-  done h = rw (drop-of-length-le s h) (add-zero i)
-
 -- a place i of s is the place x of its part from `at` on; the run from there ends at the like place
 along : (p : ℕ → Bool) (s : List ℕ) (at x i j : ℕ) → i ≡ at + x → j ≡ i + until p (drop i s) → j ≡ at + (x + until p (drop x (drop at s)))
 along p s at x i j e f = f ∙ rw (e, ← drop-drop x at s) (add-assoc at x _)

@@ -1,12 +1,12 @@
 -- ElemLaws: an element on the tape, from its header and its values.
 -- Assumes nothing.
-use mathlib.Core.Path.{_≡_, refl, sym, ap, _∙_}
+use mathlib.Core.Path.{_≡_, refl, sym, _∙_}
 use mathlib.Core.Bool.{Bool}
 use mathlib.Core.List.{List}
-use Prim.Native.Nat.{ℕ, _+_, _*_, _≤_, _<_}
+use Prim.Native.Nat.{ℕ, _+_, _*_, _≤_}
 use native.Mathlib.Omega.{arith}
-use lib.ListN.{length, getD, set, take, length-set}
-use lib.Seq.{getD-take, getD-set-same, getD-set-other, take-set-le}
+use lib.ListN.{length, getD, set, length-set}
+use lib.Seq.{getD-set-same, getD-set-other, take-set-le}
 use Rattle.paper.specs.Grammar.{Attr}
 use Rattle.paper.specs.Fields.{Kind, code, fieldsOf}
 use Rattle.paper.specs.Judging.{slotsOf}
@@ -14,11 +14,8 @@ use Rattle.sheet.specs.Fold.{needsW}
 use Rattle.tape.specs.Tape.{header, elem, Holds, ElemAt}
 use Rattle.quick.specs.Taken.{InsideIn, TagIn}
 use Rattle.quick.specs.Fits.{Fits}
-use Rattle.tape.proofs.TapeLaws.{take-more, spans-more}
-
--- a number before a place where two tapes are the same
-same-before : (t u : List ℕ) (n i : ℕ) → take n u ≡ take n t → i < n → getD u i 0 ≡ getD t i 0
-same-before t u n i e h = sym (getD-take n u i 0 h) ∙ ap (λ (x : List ℕ). getD x i 0) e ∙ getD-take n t i 0 h
+use Rattle.tape.proofs.TapeLaws.{spans-more}
+use Rattle.room.proofs.Alike.{same-before, take-more}
 
 -- what was in use of the side room lies in it
 pub holds-wide : {w side : List ℕ} {m : ℕ} {k : Kind} {t : List ℕ} {i : ℕ} {l : List Attr} → m ≤ length side → Holds w side m k t i l → Holds w side (length side) k t i l

@@ -18,7 +18,7 @@ use Rattle.paper.specs.Fields.{Kind, fieldsOf}
 use Rattle.paper.proofs.Small.{below, below-at, both}
 use Rattle.fields.specs.Places.{kindAt, placeIn, firstOf, countOf}
 use Rattle.fields.proofs.ColumnLaws.{fits-entry}
-use Rattle.markup.proofs.WalkLaws.{hit, miss}
+use Rattle.room.proofs.Runs.{run-ends, run-on}
 use Rattle.quick.specs.Passed.{RawAt}
 use Rattle.quick.specs.Letters.{letterTable, LetterAt}
 use Rattle.quick.specs.Taken.{attr, NamedAt}
@@ -103,7 +103,7 @@ no-space q single = refl
 
 -- nothing is passed where the first byte is no such byte
 pub none-passed : (p : ℕ → Bool) (w : List ℕ) (i c : ℕ) → i < length w → getD w i 0 ≡ c → p c ≡ false → i ≡ i + until p (drop i w)
-none-passed p w i c h e n = sym (hit p w i h (rw e n))
+none-passed p w i c h e n = sym (run-ends p w i h (rw e n))
 
 module _ {w : List ℕ} {k : Kind} {a j : ℕ} (L : LetterAt w k a j) where
   in-page : a + 2 < length w
@@ -115,7 +115,7 @@ module _ {w : List ℕ} {k : Kind} {a j : ℕ} (L : LetterAt w k a j) where
       let l = L .letter in
       let i = in-page in
       let n : isNameByte (getD w a 0) ≡ true = rw l in
-      let he : a + 1 ≡ a + until isNameByte (drop a w) = none-passed isNameByte w (a + 1) 61 (omega arith) (L .equals) refl ∙ sym (miss isNameByte w a (omega arith) n) in
+      let he : a + 1 ≡ a + until isNameByte (drop a w) = none-passed isNameByte w (a + 1) 61 (omega arith) (L .equals) refl ∙ sym (run-on isNameByte w a (omega arith) n) in
       let hu : a + 1 ≡ a + 1 + until isSpace (drop (a + 1) w) = none-passed isSpace w (a + 1) 61 (omega arith) (L .equals) refl in
       let z2 : a + 1 + 1 ≡ a + 2 = omega arith in
       let z3 : a + 2 + 1 ≡ a + 3 = omega arith in

@@ -6,7 +6,7 @@ use mathlib.Core.List.{List, [], _∷_, _++_, append-assoc, append-nil}
 use Prim.Native.Nat.{ℕ, _+_, _*_, _-_, _≤_, _<_}
 use native.Mathlib.Omega.{arith}
 use lib.ListN.{length, getD, take, drop}
-use lib.Seq.{slice, getD-take}
+use lib.Seq.{slice}
 use Rattle.paper.specs.Lists.{if, until}
 use Rattle.paper.specs.Bytes.{isSpace}
 use Rattle.paper.specs.Grammar.{Attr, Tag, start, end, Rest, Page, Name, placed}
@@ -27,7 +27,8 @@ use Rattle.tape.specs.Tape.{header, Elem, elem, startsOf, elemsOf, sheetBy, Ele
 use Rattle.quick.specs.Valued.{Grown}
 use Rattle.quick.specs.Taken.{TagIn}
 use Rattle.quick.specs.Stepped.{StepIn, EndAt, On}
-use Rattle.tape.proofs.TapeLaws.{Agree, take-more, lies-more, lies-up, starts-append, sheet-by}
+use Rattle.tape.proofs.TapeLaws.{lies-more, lies-up, starts-append, sheet-by}
+use Rattle.room.proofs.Alike.{agree, take-more}
 use Rattle.quick.proofs.TagLaws.{behind, byte-at, begins, closes, rest-end}
 use Rattle.quick.proofs.Scanned.{found}
 use Rattle.quick.proofs.Allowed.{page-allowed}
@@ -43,9 +44,6 @@ placed-append : (n : ℕ) (a b : List Tag) → placed n (a ++ b) ≡ placed n a 
 placed-append n [] b = refl
 placed-append n (start i x l ∷ a) b = rw (placed-append n a b)
 placed-append n (end ∷ a) b = rw (placed-append n a b)
-
-agree : (t u : List ℕ) (i j : ℕ) → take j u ≡ take j t → Agree t u i j
-agree t u i j e k a b = sym (getD-take j u k 0 b) ∙ ap (λ (x : List ℕ). getD x k 0) e ∙ getD-take j t k 0 b
 
 none-more : (w s : List ℕ) (m : ℕ) (t : List ℕ) (f : ℕ) → Lies w s m t f f (startsOf (end ∷ []))
 unfolding startsOf

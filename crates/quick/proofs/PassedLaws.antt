@@ -14,7 +14,8 @@ use Rattle.paper.specs.Lists.{until, All}
 use Rattle.paper.specs.Bytes.{isSpace, isLetter}
 use Rattle.paper.specs.Grammar.{Attr, Attrs, end, space, attr, Space, Pass, Name, Quote, double, single, isNameByte}
 use Rattle.paper.proofs.Small.{no}
-use Rattle.markup.proofs.WalkLaws.{take-drop, miss}
+use Rattle.markup.proofs.WalkLaws.{take-drop}
+use Rattle.room.proofs.Runs.{run-on}
 use Rattle.quick.specs.Passed.{RawAt}
 use Rattle.quick.proofs.PlainLaws.{run-all}
 
@@ -64,7 +65,7 @@ letter-in w a h = in-it w a (λ z. no (sym (rw z at h)))
 pub begins : (w : List ℕ) (a e : ℕ) → isLetter (getD w a 0) ≡ true → e ≡ a + until isNameByte (drop a w) → a < e
 begins w a e h q =
     let n : isNameByte (getD w a 0) ≡ true = rw h in
-    let m = miss isNameByte w a (letter-in w a h) n in
+    let m = run-on isNameByte w a (letter-in w a h) n in
     omega (arith, q, m)
 
 -- ---- one attribute

@@ -16,7 +16,8 @@ use Rattle.paper.specs.Grammar.{Pass, Quote, double, single, Raw, end, plain, i
 use Rattle.paper.specs.Values.{text, decode, keep, cut, value}
 use Rattle.paper.proofs.Small.{both, no}
 use Rattle.paper.proofs.Table.{at}
-use Rattle.markup.proofs.WalkLaws.{take-drop, hit, miss, done}
+use Rattle.markup.proofs.WalkLaws.{take-drop}
+use Rattle.room.proofs.Runs.{run-ends, run-on, run-over}
 use Rattle.quick.specs.Plain.{ordinary, oddTable, Plainly}
 
 -- ---- the table
@@ -130,15 +131,15 @@ all-of w i e h =
 module _ (w : List ℕ) (u i : ℕ) (inv : u ≡ i + until ordinary (drop i w)) where
   -- an odd byte ends the run
   pub stops : i < length w → not (ordinary (getD w i 0)) ≡ true → i ≡ u
-  stops h e = sym (inv ∙ hit ordinary w i h (not-true (ordinary (getD w i 0)) e))
+  stops h e = sym (inv ∙ run-ends ordinary w i h (not-true (ordinary (getD w i 0)) e))
 
   -- an ordinary byte is passed
   pub passed : (j : ℕ) → j ≡ i + 1 → i < length w → not (ordinary (getD w i 0)) ≡ false → u ≡ j + until ordinary (drop j w)
-  passed j q h e = inv ∙ rw q (miss ordinary w i h (not-false (ordinary (getD w i 0)) e))
+  passed j q h e = inv ∙ rw q (run-on ordinary w i h (not-false (ordinary (getD w i 0)) e))
 
   -- no byte is left
   pub ends : length w ≤ i → i ≡ u
-  ends h = sym (inv ∙ done ordinary w i h)
+  ends h = sym (inv ∙ run-over ordinary w i h)
 
 -- ---- trailing blanks
 

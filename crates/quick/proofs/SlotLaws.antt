@@ -29,7 +29,8 @@ use Rattle.sheet.proofs.FoundLaws.{slots-found, names-append, raws-more, there-
 use Rattle.tape.specs.Tape.{aside, shownIn, valuesAt, standing, Span, Spans, Holds}
 use Rattle.quick.specs.Valued.{Valued, Grown}
 use Rattle.quick.specs.Taken.{attr, AttrIn, InsideIn}
-use Rattle.tape.proofs.TapeLaws.{Agree, values-more, spans-more, take-more}
+use Rattle.tape.proofs.TapeLaws.{values-more, spans-more}
+use Rattle.room.proofs.Alike.{Agree, take-more}
 use Rattle.quick.proofs.PassedLaws.{part, all-run, spaced, last}
 
 -- ---- two numbers are put at a place

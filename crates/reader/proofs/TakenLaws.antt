@@ -6,7 +6,7 @@ use mathlib.Core.List.{List, [], _∷_}
 use Prim.Native.Nat.{ℕ, zero, suc, _+_, _≤_, _<_}
 use native.Mathlib.Omega.{arith}
 use lib.ListN.{length, getD, take, set, replicate, length-set, length-replicate}
-use lib.Seq.{getD-take, getD-set-same, getD-set-other}
+use lib.Seq.{getD-set-same, getD-set-other}
 use lib.Dec.{ltb}
 use borrow.Author.Tests.{ltb-true, ltb-false}
 use Rattle.paper.specs.Judging.{Judged, refused, Sheet, sheet, judge}
@@ -22,6 +22,7 @@ use Rattle.reader.specs.declared.answer.Answer.the-variants.{Plan}
 use Rattle.tape.specs.Tape.{elemsOf, Taped, Makes}
 use Rattle.tape.specs.Making.{IsSheet}
 use Rattle.tape.proofs.PageLaws.{is-sheet}
+use Rattle.room.proofs.Alike.{same-before}
 use Rattle.tape.proofs.TapeLaws.{lies-more}
 use Rattle.page.specs.Walking.{Read, Blank, blanks}
 use Rattle.reader.specs.Tapes.{AllSheets, Taken}
@@ -81,9 +82,6 @@ sheets-told ws a e z =
 
 -- ---- pages taped one behind the other
 
-pub agree : (t u : List ℕ) (i : ℕ) → take i u ≡ take i t → (k : ℕ) → k < i → getD u k 0 ≡ getD t k 0
-agree t u i e k h = sym (getD-take i u k 0 h) ∙ (ap (λ (l : List ℕ). getD l k 0) e ∙ getD-take i t k 0 h)
-
 -- a page stays taped where the tape and the side room only grow
 pub taped-more : {w s s′ t u : List ℕ} {m m′ i j : ℕ} → Taped w s m t i j → take m s′ ≡ take m s → m ≤ m′ → ((k : ℕ) → k < j → getD u k 0 ≡ getD t k 0) → j ≤ length u → m′ ≤ length s′ → Taped w s′ m′ u i j
 taped-more {w} {s} {s′} {t} {u} {m} {m′} {i} {j} T e up h l k =
@@ -92,7 +90,7 @@ taped-more {w} {s} {s′} {t} {u} {m} {m′} {i} {j} T e up h l k =
 -- the tape still begins with what it began with
 blank-more : {w t u x y : List ℕ} {i j m n : ℕ} → Makes w t u i j x y m n → Blank t → blanks ≤ i → length u ≡ length t → Blank u
 blank-more {t = t} {u = u} {i = i} M B h l =
-    record { long = omega (arith, B .long, l); zeros = λ z g. agree t u i (M .kept .tape) z (omega (arith, g, h)) ∙ B .zeros z g }
+    record { long = omega (arith, B .long, l); zeros = λ z g. same-before t u i z (M .kept .tape) (omega (arith, g, h)) ∙ B .zeros z g }
 
 -- a page that was made can be read
 pub made-read : {w t u x y : List ℕ} {i j m n : ℕ} → Makes w t u i j x y m n → Blank t → blanks ≤ i → length u ≡ length t → Read w y u i j
@@ -106,7 +104,7 @@ made-still {u = u} {u′ = u′} {i = i} {j = j} M N B h l l′ =
     record {
       taped =
           taped-more {t = u′} {u = u′}
-          (taped-more {t = u} {u = u′} (M .taped) (N .kept .aside-too) (N .up) (λ z g. agree u u′ j (N .kept .tape) z g) (omega (arith, M .taped .within .0, l′)) (N .taped .within .1))
+          (taped-more {t = u} {u = u′} (M .taped) (N .kept .aside-too) (N .up) (λ z g. same-before u u′ j z (N .kept .tape) g) (omega (arith, M .taped .within .0, l′)) (N .taped .within .1))
           refl
           (N .taped .within .1)
           (λ z q. refl)
@@ -156,7 +154,7 @@ module _ {ws : List (List ℕ)} {t u x y fs : List ℕ} {m n k j : ℕ} {w : Lis
   kept-page p h =
       let E = G .each p h in
       rw (older p h, old p h, last)
-      (taped-more (E .0) (M .kept .aside-too) (M .up) (λ z g. agree t u (getD fs k 0) (M .kept .tape) z (omega (arith, g, E .1))) (omega (arith, E .1, up-to, M .taped .within .0)) (M .taped .within .1), omega (arith, E .1, up-to))
+      (taped-more (E .0) (M .kept .aside-too) (M .up) (λ z g. same-before t u (getD fs k 0) z (M .kept .tape) (omega (arith, g, E .1))) (omega (arith, E .1, up-to, M .taped .within .0)) (M .taped .within .1), omega (arith, E .1, up-to))
 
   new-page : Taped (getD ws k []) y n u (getD (set fs (k + 1) j) k 0) (getD (set fs (k + 1) j) (k + 1) 0) × (getD (set fs (k + 1) j) (k + 1) 0 ≤ getD (set fs (k + 1) j) (k + 1) 0)
   new-page = (rw (here, last, ← q) (M .taped), omega arith)
@@ -168,7 +166,7 @@ module _ {ws : List (List ℕ)} {t u x y fs : List ℕ} {m n k j : ℕ} {w : Lis
     inner = omega (arith, last, M .taped .within .0);
     low = omega (arith, last, up-to, G .low);
     used = M .taped .within .1;
-    blank = record { long = omega (arith, G .blank .long, tl); zeros = λ z g. agree t u (getD fs k 0) (M .kept .tape) z (omega (arith, g, G .low)) ∙ G .blank .zeros z g };
+    blank = record { long = omega (arith, G .blank .long, tl); zeros = λ z g. same-before t u (getD fs k 0) z (M .kept .tape) (omega (arith, g, G .low)) ∙ G .blank .zeros z g };
     each = λ p h. below p k h (kept-page p) (λ e. rw e new-page);
   }
 

@@ -28,12 +28,12 @@ use Rattle.sheet.proofs.FlawLaws.{told-slots}
 use Rattle.tape.specs.Tape.{Elem, elem, header, startsOf, elemsOf, sheetBy, Lies, Kept, Makes}
 use Rattle.tape.specs.Rooms.{tapeRoom, sideRoom, width, valuesLength}
 use Rattle.tape.specs.Making.{IsSheet, LaysElem}
-use Rattle.tape.proofs.TapeLaws.{take-more, sheet-by, lies-more, lies-one}
+use Rattle.tape.proofs.TapeLaws.{sheet-by, lies-more, lies-one}
+use Rattle.room.proofs.Alike.{take-more, agree}
 use Rattle.tape.proofs.CleanLaws.{Known, known-tags}
 use Rattle.tape.proofs.RoomLaws.{page-tags, page-clean, tape-enough, side-enough, lies-wide}
 use Rattle.tape.proofs.WalkLaws.{Ends, Starts}
 use Rattle.tape.proofs.ValueLaws.{count-is}
-use Rattle.tape.proofs.SlotLaws.{agree}
 
 -- ---- a page that is judged to a sheet
 

@@ -6,7 +6,7 @@ use Prim.Native.Nat.{ℕ, zero, suc, _+_, _*_, _-_, _≤_, _<_}
 use native.Mathlib.Numerals.{add-one}
 use native.Mathlib.Omega.{arith}
 use lib.ListN.{length, take, getD, set, length-append, length-set}
-use lib.Seq.{slice-empty, length-take-le, take-suc, getD-take, getD-set-same, getD-set-other, take-set-le}
+use lib.Seq.{slice-empty, length-take-le, take-suc, getD-set-same, getD-set-other, take-set-le}
 use borrow.Author.Tests.{lt-ltb, le-ltb}
 use Rattle.paper.specs.Lists.{concat}
 use Rattle.paper.specs.Fields.{Kind, code, fieldsOf}
@@ -16,15 +16,9 @@ use Rattle.plan.proofs.Shown.{concat-append}
 use Rattle.room.proofs.LaidLaws.{laid-before}
 use Rattle.tape.specs.Tape.{elem, header, aside, shownIn, valuesAt, Span, Spans}
 use Rattle.tape.specs.Making.{LaysSlots, LaysElem}
-use Rattle.tape.proofs.TapeLaws.{Agree, take-more, spans-more, values-more}
+use Rattle.tape.proofs.TapeLaws.{spans-more, values-more}
+use Rattle.room.proofs.Alike.{same-before, agree, take-more}
 use Rattle.tape.proofs.ValueLaws.{laid-shown, concat-room}
-
--- a number before a place where two tapes are the same
-same-before : (t u : List ℕ) (n i : ℕ) → take n u ≡ take n t → i < n → getD u i 0 ≡ getD t i 0
-same-before t u n i e h = sym (getD-take n u i 0 h) ∙ ap (λ (x : List ℕ). getD x i 0) e ∙ getD-take n t i 0 h
-
-pub agree : (t u : List ℕ) (i j : ℕ) → take j u ≡ take j t → Agree t u i j
-agree t u i j e k a b = same-before t u j k e b
 
 -- ---- one value
 

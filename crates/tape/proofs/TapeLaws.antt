@@ -1,14 +1,14 @@
 -- TapeLaws: what elements say is what their tags say; elements on the tape stay what they are where the tape and the side room only grow.
 -- Assumes nothing.
-use mathlib.Core.Path.{_≡_, refl, sym, ap, _∙_}
+use mathlib.Core.Path.{_≡_, refl, ap, _∙_}
 use mathlib.Core.Bool.{Bool, true, false}
 use mathlib.Core.Option.{Option, none, some}
 use mathlib.Core.List.{List, [], _∷_, _++_}
-use Prim.Native.Nat.{ℕ, zero, suc, _+_, _*_, _-_, _≤_, _<_}
+use Prim.Native.Nat.{ℕ, zero, suc, _+_, _*_, _-_, _≤_}
 use native.Mathlib.Omega.{arith}
 use lib.Dec.{ltb}
 use lib.ListN.{length, take, drop, getD}
-use lib.Seq.{slice, take-take}
+use lib.Seq.{slice}
 use borrow.Author.Tests.{ltb-true, ltb-false}
 use Rattle.paper.specs.Lists.{if}
 use Rattle.paper.specs.Grammar.{Attr, Tag, start, end}
@@ -16,6 +16,7 @@ use Rattle.paper.specs.Fields.{Kind, MP, P, A, O, W, is, fieldsOf}
 use Rattle.paper.specs.Plan.{Slots, Row}
 use Rattle.paper.specs.Judging.{slotsOf, item, rowOf, Sheet}
 use Rattle.paper.proofs.Told.{is-eq}
+use Rattle.room.proofs.Alike.{Agree, take-more}
 use Rattle.sheet.specs.Content.{kindNamed, attrsOfFirst, slotsFrom, partFrom, wsFrom, rowsFrom, headFrom, contentOf}
 use Rattle.tape.specs.Tape.{Elem, elem, elemOf, startsOf, partBy, wsBy, rowsBy, headBy, sheetBy, header, aside, shownIn, valuesAt, standing, Span, Spans, ElemAt, Lies}
 
@@ -63,13 +64,6 @@ starts-append (end ∷ ts) us = starts-append ts us
 starts-append (start i n l ∷ ts) us = rw (starts-append ts us)
 
 -- ---- what does not change
-
--- two tapes agree before a place
-abbrev pub Agree : List ℕ → List ℕ → ℕ → ℕ → Type 0
-Agree t u i j = (k : ℕ) → i ≤ k → k < j → getD u k 0 ≡ getD t k 0
-
-pub take-more : (s s′ : List ℕ) (m b : ℕ) → b ≤ m → take m s′ ≡ take m s → take b s′ ≡ take b s
-take-more s s′ m b h e = sym (take-take b m s′ h) ∙ ap (take b) e ∙ take-take b m s h
 
 pub shown-same : (w s s′ : List ℕ) (m a b : ℕ) → take m s′ ≡ take m s → Span w m a b → shownIn w s′ a b ≡ shownIn w s a b
 unfolding shownIn

@@ -6,7 +6,7 @@ use lib.ListN.{length, drop}
 use borrow.Author.Needs.{needs}
 use Rattle.paper.specs.Lists.{until}
 use Rattle.fields.specs.Sets.{inSet}
-use Rattle.fields.proofs.SetLaws.{run-ends, run-on, run-over}
+use Rattle.room.proofs.Runs.{run-ends, run-on, run-over}
 use Rattle.fields.proofs.sets.run.Statement.{statement}
 use Rattle.fields.proofs.sets.run.Tie as tie
 

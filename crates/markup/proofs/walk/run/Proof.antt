@@ -6,7 +6,7 @@ use native.Mathlib.Omega.{arith}
 use lib.ListN.{length, drop}
 use Rattle.paper.specs.Lists.{until}
 use Rattle.markup.specs.Walk.{passes}
-use Rattle.markup.proofs.WalkLaws.{hit, miss, done}
+use Rattle.room.proofs.Runs.{run-ends, run-on, run-over}
 use borrow.Author.Needs.{needs}
 use Rattle.markup.proofs.walk.run.Statement.{statement}
 use Rattle.markup.proofs.walk.run.Tie as tie
@@ -36,19 +36,19 @@ loop-again : tie.Need-loop-again Inv-loop μ-loop
 loop-again c =
     let L = c .before .before .before .before in
     let a = L .before .before .args in
-    (omega arith, (λ h. omega arith), L .loop .inv .2 ∙ miss (passes (a .k)) (a .page .now) (L .loop .i) (search needs) (sym (c .before .in-set .ensures) ∙ c .if1 .taken))
+    (omega arith, (λ h. omega arith), L .loop .inv .2 ∙ run-on (passes (a .k)) (a .page .now) (L .loop .i) (search needs) (sym (c .before .in-set .ensures) ∙ c .if1 .taken))
 
 returns : tie.Need-returns Inv-loop μ-loop
 returns c =
     let L = c .before .before .before .before in
     let a = L .before .before .args in
-    (sym (L .loop .inv .2 ∙ hit (passes (a .k)) (a .page .now) (L .loop .i) (search needs) (sym (c .before .in-set .ensures) ∙ c .if1 .left)), L .loop .inv .0, L .loop .inv .1)
+    (sym (L .loop .inv .2 ∙ run-ends (passes (a .k)) (a .page .now) (L .loop .i) (search needs) (sym (c .before .in-set .ensures) ∙ c .if1 .left)), L .loop .inv .0, L .loop .inv .1)
 
 returns-2 : tie.Need-returns-2 Inv-loop μ-loop
 returns-2 c =
     let L = c .before in
     let a = L .before .before .args in
-    (sym (L .loop .inv .2 ∙ done (passes (a .k)) (a .page .now) (L .loop .i) (c .loop-test .left)), L .loop .inv .0, L .loop .inv .1)
+    (sym (L .loop .inv .2 ∙ run-over (passes (a .k)) (a .page .now) (L .loop .i) (c .loop-test .left)), L .loop .inv .0, L .loop .inv .1)
 
 pub run-spec : {M : Type 1} → statement M
 run-spec =

@@ -6,7 +6,7 @@ use native.Mathlib.Omega.{arith}
 use mathlib.Core.Bool.{true}
 use lib.ListN.{length, getD}
 use Rattle.paper.specs.Bytes.{isSpace}
-use Rattle.markup.proofs.WalkLaws.{miss}
+use Rattle.room.proofs.Runs.{run-on}
 use Rattle.quick.proofs.PassedLaws.{in-it}
 use Rattle.quick.proofs.LetterLaws.{none-passed, high-mark}
 use borrow.Author.Needs.{needs}
@@ -52,7 +52,7 @@ returns-2 c =
     let il : i < length w = in-it w i (λ z. omega (arith, b, z, (c .before .before) .if2 .taken)) in
     let jl : i + 1 < length w = in-it w (i + 1) (λ z. omega (arith, b2, z, c .if3 .taken)) in
     let s : isSpace (getD w i 0) ≡ true = rw (sym b ∙ (c .before .before) .if2 .taken) in
-    (none-passed isSpace w (i + 1) _ jl refl (high-mark (getD w (i + 1) 0) (omega (arith, b2, c .if3 .taken))) ∙ sym (miss isSpace w i il s), omega arith, λ h. omega (arith, jl))
+    (none-passed isSpace w (i + 1) _ jl refl (high-mark (getD w (i + 1) 0) (omega (arith, b2, c .if3 .taken))) ∙ sym (run-on isSpace w i il s), omega arith, λ h. omega (arith, jl))
 
 run-requires : tie.Need-run-requires
 run-requires c κs = search needs
