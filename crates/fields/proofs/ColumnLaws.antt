@@ -15,7 +15,7 @@ use Rattle.paper.specs.Lists.{same, every}
 use Rattle.paper.specs.Fields.{Kind, unknown, MP, P, A, O, S, M, W, R, X, code, Field, table, fieldsOf, tagName, excluded}
 use Rattle.paper.proofs.Small.{both, below-at, same-eq}
 use Rattle.fields.specs.Places.{kindAt, ruleNumber, noField, fieldAt, firstOf, countOf, under, onesOf, othersOf, keyOf}
-use Rattle.fields.specs.Columns.{bit, packed, entryOf, keyColumn, ruleColumn, leastColumn, mostColumn, tildeColumn, mustColumn, firstColumn, countColumn, childKeyColumn, childKindColumn, childFirstColumn, childCountColumn, oneColumn, otherColumn, pairFirstColumn, pairCountColumn}
+use Rattle.fields.specs.Columns.{bit, packed, entryOf, limitOf, partOf, keyColumn, limitColumn, firstColumn, countColumn, childKeyColumn, childKindColumn, childFirstColumn, childCountColumn, oneColumn, otherColumn, pairFirstColumn, pairCountColumn}
 
 -- ---- a field's columns
 
@@ -24,6 +24,12 @@ getD-of : {A : Type 0} (f : A → ℕ) (l : List A) (i : ℕ) (d : A) → i < le
 getD-of f [] i d h = absurd (omega arith)
 getD-of f (x ∷ l) zero d h = refl
 getD-of f (x ∷ l) (suc i) d h = getD-of f l i d (omega arith)
+
+-- what every entry of a list passes, the one at a place does
+every-at : {A : Type 0} (t : A → Bool) (l : List A) (d : A) (i : ℕ) → every t l ≡ true → i < length l → t (getD l i d) ≡ true
+every-at t [] d i e h = absurd (omega arith)
+every-at t (x ∷ l) d zero e h = both (t x) (every t l) e .0
+every-at t (x ∷ l) d (suc i) e h = every-at t l d i (both (t x) (every t l) e .1) (omega arith)
 
 -- the entries of a column of bytes
 small-entry : (l : List ℕ) (i : ℕ) → every (λ (x : ℕ). leb x 255) l ≡ true → getD l i 0 ≤ 255
@@ -40,30 +46,38 @@ pub letters-at : (id : ℕ) → id < 52 → getD keyColumn id 0 ≡ keyOf (field
 unfolding keyColumn fieldAt
 letters-at id h = getD-of (λ (f : Field). keyOf (f .letters)) table id noField h
 
--- the rule of a field
-pub rule-at : (id : ℕ) → getD ruleColumn id 0 ≡ ruleNumber (fieldAt id .rule)
-unfolding ruleColumn fieldAt
-rule-at id = List·getD-map (λ (f : Field). ruleNumber (f .rule)) table id noField
+-- number k of a field's limits is what the field says there, by one computed test
+limit-by : (g : Field → ℕ) (k : ℕ) → every (λ (f : Field). eqb (partOf (limitOf f) k) (g f)) table ≡ true → (id : ℕ) → id < 52 → partOf (getD limitColumn id 0) k ≡ g (fieldAt id)
+unfolding limitColumn fieldAt
+limit-by g k e id h = ap (λ (n : ℕ). partOf n k) (getD-of limitOf table id noField h) ∙ eqb-true _ _ (every-at (λ (f : Field). eqb (partOf (limitOf f) k) (g f)) table noField id e h)
+
+-- the same in limits that a caller hands down
+pub handed : (k : ℕ) (l : List ℕ) (id x : ℕ) → l ≡ limitColumn → partOf (getD limitColumn id 0) k ≡ x → partOf (getD l id 0) k ≡ x
+handed k l id x e f = ap (λ (s : List ℕ). partOf (getD s id 0) k) e ∙ f
+
+-- its rule
+pub rule-at : (id : ℕ) → id < 52 → partOf (getD limitColumn id 0) 0 ≡ ruleNumber (fieldAt id .rule)
+rule-at = limit-by (λ (f : Field). ruleNumber (f .rule)) 0 refl
+
+pub rule-small : (id : ℕ) → id < 52 → ruleNumber (fieldAt id .rule) ≤ 255
+unfolding fieldAt
+rule-small id h = leb-true _ 255 (every-at (λ (f : Field). leb (ruleNumber (f .rule)) 255) table noField id refl h)
 
 -- its least length
-pub least-at : (id : ℕ) → getD leastColumn id 0 ≡ fieldAt id .least
-unfolding leastColumn fieldAt
-least-at id = List·getD-map (λ (f : Field). f .least) table id noField
+pub least-at : (id : ℕ) → id < 52 → partOf (getD limitColumn id 0) 1 ≡ fieldAt id .least
+least-at = limit-by (λ (f : Field). f .least) 1 refl
 
 -- its greatest length
-pub most-at : (id : ℕ) → getD mostColumn id 0 ≡ fieldAt id .most
-unfolding mostColumn fieldAt
-most-at id = List·getD-map (λ (f : Field). f .most) table id noField
+pub most-at : (id : ℕ) → id < 52 → partOf (getD limitColumn id 0) 2 ≡ fieldAt id .most
+most-at = limit-by (λ (f : Field). f .most) 2 refl
 
 -- how many line breaks it may have
-pub tilde-at : (id : ℕ) → getD tildeColumn id 0 ≡ fieldAt id .tildes
-unfolding tildeColumn fieldAt
-tilde-at id = List·getD-map (λ (f : Field). f .tildes) table id noField
+pub tilde-at : (id : ℕ) → id < 52 → partOf (getD limitColumn id 0) 3 ≡ fieldAt id .tildes
+tilde-at = limit-by (λ (f : Field). f .tildes) 3 refl
 
 -- whether it must be present
-pub must-at : (id : ℕ) → getD mustColumn id 0 ≡ bit (fieldAt id .must)
-unfolding mustColumn fieldAt
-must-at id = List·getD-map (λ (f : Field). bit (f .must)) table id noField
+pub must-at : (id : ℕ) → id < 52 → partOf (getD limitColumn id 0) 4 ≡ bit (fieldAt id .must)
+must-at = limit-by (λ (f : Field). bit (f .must)) 4 refl
 
 -- the number of a truth value is 1 just for the true one
 pub bit-one : (b : Bool) → eqb (bit b) 1 ≡ b

@@ -3,20 +3,20 @@
 use mathlib.Core.Path.{_≡_, refl, sym, ap, _∙_}
 use mathlib.Core.Bool.{Bool, true, false, not, _&&_, _||_}
 use mathlib.Core.List.{List, [], _∷_}
-use Prim.Native.Nat.{ℕ, zero, suc, _+_, _≤_, _<_}
-use native.Mathlib.Nat.{add-zero}
+use Prim.Native.Nat.{ℕ, zero, suc, _+_, _-_, _≤_, _<_}
+use native.Mathlib.Nat.{add-zero, sub-zero, zero-sub, suc-sub-suc}
 use native.Mathlib.Numerals.{add-one}
 use native.Mathlib.Omega.{arith}
 use lib.Dec.{eqb, leb, ltb, eqb→eq}
-use lib.ListN.{length, drop, getD, drop-of-length-le, List·getD-eq-default}
-use lib.Seq.{drop-cons}
+use lib.ListN.{length, take, drop, getD, drop-of-length-le, List·getD-eq-default}
+use lib.Seq.{take-nil, drop-cons, slice, slice-empty, length-slice}
 use borrow.Author.Tests.{ne-eqb, eqb-true, le-leb, lt-leb, ltb-true, ltb-false}
-use Rattle.paper.specs.Lists.{if, every, count, same}
+use Rattle.paper.specs.Lists.{if, every, count, same, isEmpty}
 use Rattle.paper.specs.Bytes.{isDecoded}
 use Rattle.paper.specs.Fields.{Field, Rule, text, version, digits, hexes, language, pageNo, birthday, sex, insured, stamp, one, lines, pzn, code3, dose, sign}
 use Rattle.paper.specs.Rules.{linesOk, isZero, keeps, obeys}
-use Rattle.paper.proofs.Small.{below-at, no}
-use Rattle.fields.specs.Places.{ruleAt, ruleNumber, limits}
+use Rattle.paper.proofs.Small.{below-at, both, no}
+use Rattle.fields.specs.Places.{ruleAt, ruleNumber, formed, fieldFlaw}
 
 -- ---- text
 
@@ -139,18 +139,80 @@ not-dose n v h = go (ltb n 16) refl
 
 -- ---- a field's tests
 
--- a test that fails in the middle
-pub and-false : (a : Bool) → (a && false) ≡ false
-and-false true = refl
-and-false false = refl
+module _ (f : Field) (v : List ℕ) where
+  -- a value that is too short
+  pub too-short : length v < f .least → false ≡ formed f v
+  too-short h = rw (lt-leb (f .least) (length v) h)
 
--- two tests that fail together
-pub and-drop : (a b c : Bool) → (a && b) ≡ false → (a && (b && c)) ≡ false
-and-drop true true c e = no e
-and-drop true false c e = refl
-and-drop false b c e = refl
+  -- one that is too long
+  pub too-long : f .most < length v → false ≡ formed f v
+  too-long h = go (leb (f .least) (length v)) (lt-leb (length v) (f .most) h)
+    where
+      go : (a : Bool) → leb (length v) (f .most) ≡ false → false ≡ a && (leb (length v) (f .most) && obeys (f .rule) v)
+      go true e = rw e
+      go false e = refl
 
--- a field is kept by its rule's number and its limits
-pub keeps-limits-of : (f : Field) (r a b t : ℕ) (v : List ℕ) → r ≡ ruleNumber (f .rule) → a ≡ f .least → b ≡ f .most → t ≡ f .tildes
-    → keeps (limits r a b t) v ≡ keeps f v
-keeps-limits-of f r a b t v e p q w = rw (e, p, q, w, rule-back (f .rule))
+  -- any other, by the number of its rule
+  pub fitting : (r : ℕ) → f .least ≤ length v → length v ≤ f .most → r ≡ ruleNumber (f .rule) → obeys (ruleAt r) v ≡ formed f v
+  fitting r l m e = ap (λ (n : ℕ). obeys (ruleAt n) v) e ∙ ap (λ (q : Rule). obeys q v) (rule-back (f .rule)) ∙ sym (rw (le-leb (f .least) (length v) l, le-leb (length v) (f .most) m))
+
+-- a field is kept by a text that has its length and its form
+pub keeps-by : (f : Field) (v : List ℕ) → (every isDecoded v && leb (count 126 v) (f .tildes)) ≡ true → formed f v ≡ keeps f v
+keeps-by f v e = let (x, y) = both (every isDecoded v) (leb (count 126 v) (f .tildes)) e in rw (x, y)
+
+-- and broken by what is no text
+pub keeps-none : (f : Field) (v : List ℕ) → (every isDecoded v && leb (count 126 v) (f .tildes)) ≡ false → false ≡ keeps f v
+keeps-none f v e = sym (go (every isDecoded v) (leb (f .least) (length v)) (leb (length v) (f .most)) (leb (count 126 v) (f .tildes)) e)
+  where
+    go : (a b c d : Bool) → (a && d) ≡ false → (a && (b && (c && (d && obeys (f .rule) v)))) ≡ false
+    go false b c d e = refl
+    go true false c d e = refl
+    go true true false d e = refl
+    go true true true false e = refl
+    go true true true true e = no e
+
+-- ---- what is wrong with a value
+
+module _ (f : Field) (v : List ℕ) where
+  -- absent, and must not be
+  pub flaw-missing : [] ≡ v → f .must ≡ true → 8 ≡ fieldFlaw f v
+  unfolding fieldFlaw
+  flaw-missing e m = rw (← e, m)
+
+  -- absent
+  pub flaw-absent : [] ≡ v → f .must ≡ false → 9 ≡ fieldFlaw f v
+  unfolding fieldFlaw
+  flaw-absent e m = rw (← e, m)
+
+  -- present, and it keeps its field
+  pub flaw-kept : isEmpty v ≡ false → keeps f v ≡ true → 9 ≡ fieldFlaw f v
+  unfolding fieldFlaw
+  flaw-kept e k = rw (e, k) (go (f .must))
+    where
+      go : (b : Bool) → _≡_ {A = ℕ} 9 (if (b && false) 8 9)
+      go true = refl
+      go false = refl
+
+  -- present, and it breaks its field
+  pub flaw-broken : isEmpty v ≡ false → keeps f v ≡ false → 7 ≡ fieldFlaw f v
+  unfolding fieldFlaw
+  flaw-broken e k = rw (e, k)
+
+-- what a function that is lent a part of a text is lent
+pub part-is : (t : List ℕ) (i j : ℕ) → take (j - i) (drop i t) ≡ slice i j t
+part-is t zero j = rw (sub-zero j)
+part-is [] (suc i) zero = take-nil (zero - suc i)
+part-is [] (suc i) (suc j) = take-nil (suc j - suc i)
+part-is (c ∷ t) (suc i) zero = rw (zero-sub (suc i))
+part-is (c ∷ t) (suc i) (suc j) = rw (suc-sub-suc j i) (part-is t i j)
+
+-- a part from a place up to itself is empty, and any other is not
+pub part-empty : (t : List ℕ) (i j : ℕ) → i ≡ j → [] ≡ slice i j t
+part-empty t i j e = sym (ap (λ (k : ℕ). slice i k t) (sym e) ∙ slice-empty i t)
+
+pub part-some : (t : List ℕ) (i j : ℕ) → i ≤ j → j ≤ length t → (i ≡ j → ⊥) → isEmpty (slice i j t) ≡ false
+part-some t i j h l n = go (slice i j t) (length-slice i j t l)
+  where
+    go : (v : List ℕ) → length v ≡ j - i → isEmpty v ≡ false
+    go [] e = absurd (n (omega arith))
+    go (c ∷ v) e = refl

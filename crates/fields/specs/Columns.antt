@@ -1,5 +1,5 @@
--- Columns: the table of elements and fields column by column, as the code holds it. A caller that hands columns down cites keyColumn, ruleColumn,
--- leastColumn, mostColumn, tildeColumn and mustColumn; the others serve this crate.
+-- Columns: the table of elements and fields column by column, as the code holds it. A caller that hands columns down cites keyColumn and
+-- limitColumn; the others serve this crate.
 -- Assumes nothing.
 use mathlib.Core.Bool.{Bool, true, false, not}
 use mathlib.Core.List.{List, [], _∷_, map}
@@ -19,25 +19,17 @@ bit false = 0
 unfoldable pub keyColumn : List ℕ
 keyColumn = map (λ (f : Field). keyOf (f .letters)) table
 
--- the rules of the fields
-unfoldable pub ruleColumn : List ℕ
-ruleColumn = map (λ (f : Field). ruleNumber (f .rule)) table
+-- a field's limits as one number, twelve bits to each: its rule, its least and its greatest length, how many line breaks it may have, and whether it must be present
+abbrev pub limitOf : Field → ℕ
+limitOf f = ruleNumber (f .rule) + 4096 * (f .least + 4096 * (f .most + 4096 * (f .tildes + 4096 * bit (f .must))))
 
--- the least lengths
-unfoldable pub leastColumn : List ℕ
-leastColumn = map (λ (f : Field). f .least) table
+-- the limits of the fields
+unfoldable pub limitColumn : List ℕ
+limitColumn = map limitOf table
 
--- the greatest lengths
-unfoldable pub mostColumn : List ℕ
-mostColumn = map (λ (f : Field). f .most) table
-
--- how many line breaks each may have
-unfoldable pub tildeColumn : List ℕ
-tildeColumn = map (λ (f : Field). f .tildes) table
-
--- 1 for a field that must be present
-unfoldable pub mustColumn : List ℕ
-mustColumn = map (λ (f : Field). bit (f .must)) table
+-- number k of a field's limits
+abbrev pub partOf : ℕ → ℕ → ℕ
+partOf n k = n / 2 ^ (12 * k) % 4096
 
 -- the place of each element's first field
 unfoldable pub firstColumn : List ℕ

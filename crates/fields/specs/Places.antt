@@ -1,13 +1,15 @@
 -- Places: the numbers by which the code names elements, rules and fields. An element's number is paper's `code`, a field's is its place in the table.
 -- Assumes nothing.
-use mathlib.Core.Bool.{Bool, true, false}
+use mathlib.Core.Bool.{Bool, true, false, _&&_}
 use mathlib.Core.List.{List, [], _∷_, map}
 use Prim.Native.Nat.{ℕ, zero, suc, _+_, _*_, _/_, _%_}
 use lib.Dec.{eqb, leb, ltb}
 use lib.ListN.{length, take, drop, getD}
-use Rattle.paper.specs.Lists.{if, same}
+use Rattle.paper.specs.Lists.{if, same, isEmpty}
 use Rattle.paper.specs.Fields.{Kind, unknown, MP, P, A, O, S, M, W, R, X, is, Field, field, table, fieldsOf, children, excluded, Pair}
 use Rattle.paper.specs.Fields.{Rule, text, version, digits, hexes, language, pageNo, birthday, sex, insured, stamp, one, lines, pzn, code3, dose, sign}
+use Rattle.paper.specs.Rules.{obeys}
+use Rattle.paper.specs.Judging.{breaks}
 
 -- the elements by their numbers
 abbrev pub kinds : List Kind
@@ -48,9 +50,13 @@ noField = field unknown [] text 0 0 0 false
 unfoldable pub fieldAt : ℕ → Field
 fieldAt id = getD table id noField
 
--- a field of which only the rule, the lengths and the line breaks are told
-abbrev pub limits : ℕ → ℕ → ℕ → ℕ → Field
-limits r a b t = field unknown [] (ruleAt r) a b t false
+-- a value has a length and a form that its field allows
+abbrev pub formed : Field → List ℕ → Bool
+formed f v = leb (f .least) (length v) && (leb (length v) (f .most) && obeys (f .rule) v)
+
+-- the fault of one field: 7 if its value breaks it, 8 if it must be present and is not, 9 if none
+unfoldable pub fieldFlaw : Field → List ℕ → ℕ
+fieldFlaw f v = if (breaks f v) 7 (if (f .must && isEmpty v) 8 9)
 
 -- how many fields stand before the one with those letters; all of them if there is none
 abbrev pub placeIn : List ℕ → List Field → ℕ

@@ -5,7 +5,7 @@ ghost use lib.ListN.{length, take, drop, getD};
 ghost use Rattle.paper.specs.Lists.{until};
 ghost use Rattle.paper.specs.Fields.{code, named, fieldsOf, excluded};
 ghost use Rattle.fields.specs.Places.{kindAt, ruleNumber, fieldAt, placeIn, firstOf, countOf, under, onesOf, othersOf, keyOf, keyOrNone};
-ghost use Rattle.fields.specs.Columns.{other, entryOf, keyColumn, ruleColumn, leastColumn, mostColumn, tildeColumn, mustColumn};
+ghost use Rattle.fields.specs.Columns.{other, entryOf, partOf, keyColumn, limitColumn};
 use crate::table::CHILD_COUNTS;
 use crate::table::CHILD_FIRSTS;
 use crate::table::CHILD_KEYS;
@@ -13,15 +13,11 @@ use crate::table::CHILD_KINDS;
 use crate::table::COUNTS;
 use crate::table::FIRSTS;
 use crate::table::KEYS;
-use crate::table::LEASTS;
-use crate::table::MOSTS;
-use crate::table::MUSTS;
+use crate::table::LIMITS;
 use crate::table::PAIR_COUNTS;
 use crate::table::PAIR_FIRSTS;
 use crate::table::PAIR_ONES;
 use crate::table::PAIR_OTHERS;
-use crate::table::RULES;
-use crate::table::TILDES;
 
 // The letters of all fields, as keys.
 pub fn keys() -> [u64; 52]
@@ -30,39 +26,59 @@ pub fn keys() -> [u64; 52]
     KEYS
 }
 
-// The rules of all fields.
-pub fn rules() -> [u8; 52]
-    ensures { λ r. ⌜ r ≡ ruleColumn ⌝ }
+// The limits of all fields.
+pub fn limits() -> [u64; 52]
+    ensures { λ r. ⌜ r ≡ limitColumn ⌝ }
 {
-    RULES
+    LIMITS
 }
 
-// The least lengths of all fields.
-pub fn leasts() -> [u16; 52]
-    ensures { λ r. ⌜ r ≡ leastColumn ⌝ }
+// One of the five numbers in a field's limits.
+fn part(limits: &[u64; 52], id: usize, k: u64) -> usize
+    requires { ⌜ (id < 52) × (k < 5) ⌝ }
+    ensures { λ r. ⌜ r ≡ partOf (getD (now (limits .entry)) id 0) k ⌝ }
 {
-    LEASTS
+    ((limits[id] >> (12 * k)) % 4096) as usize
 }
 
-// The greatest lengths of all fields.
-pub fn mosts() -> [u16; 52]
-    ensures { λ r. ⌜ r ≡ mostColumn ⌝ }
+// A field's rule.
+pub fn rule_in(limits: &[u64; 52], id: usize) -> u8
+    requires { ⌜ (now limits ≡ limitColumn) × (id < 52) ⌝ }
+    ensures { λ r. ⌜ r ≡ ruleNumber (fieldAt id .rule) ⌝ }
 {
-    MOSTS
+    part(limits, id, 0) as u8
 }
 
-// How many line breaks each field may have.
-pub fn tildes() -> [u8; 52]
-    ensures { λ r. ⌜ r ≡ tildeColumn ⌝ }
+// Its least length.
+pub fn least_in(limits: &[u64; 52], id: usize) -> usize
+    requires { ⌜ (now limits ≡ limitColumn) × (id < 52) ⌝ }
+    ensures { λ r. ⌜ r ≡ fieldAt id .least ⌝ }
 {
-    TILDES
+    part(limits, id, 1)
 }
 
-// Which fields must be present: 1 for each that must.
-pub fn musts() -> [u8; 52]
-    ensures { λ r. ⌜ r ≡ mustColumn ⌝ }
+// Its greatest length.
+pub fn most_in(limits: &[u64; 52], id: usize) -> usize
+    requires { ⌜ (now limits ≡ limitColumn) × (id < 52) ⌝ }
+    ensures { λ r. ⌜ r ≡ fieldAt id .most ⌝ }
 {
-    MUSTS
+    part(limits, id, 2)
+}
+
+// How many line breaks it may have.
+pub fn tildes_in(limits: &[u64; 52], id: usize) -> usize
+    requires { ⌜ (now limits ≡ limitColumn) × (id < 52) ⌝ }
+    ensures { λ r. ⌜ r ≡ fieldAt id .tildes ⌝ }
+{
+    part(limits, id, 3)
+}
+
+// Whether it must be present.
+pub fn must_in(limits: &[u64; 52], id: usize) -> bool
+    requires { ⌜ (now limits ≡ limitColumn) × (id < 52) ⌝ }
+    ensures { λ r. ⌜ r ≡ fieldAt id .must ⌝ }
+{
+    part(limits, id, 4) == 1
 }
 
 // The letters of a field, as a key.
@@ -73,12 +89,13 @@ pub fn letters_of(id: usize) -> u64
     KEYS[id]
 }
 
-// A field's rule.
+// The same rule, with the limits of the table itself.
 pub fn rule_of(id: usize) -> u8
     requires { ⌜ id < 52 ⌝ }
     ensures { λ r. ⌜ r ≡ ruleNumber (fieldAt id .rule) ⌝ }
 {
-    RULES[id]
+    let limits = limits();
+    rule_in(&limits, id)
 }
 
 // The number at a place of a packed column.

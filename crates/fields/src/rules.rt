@@ -1,20 +1,24 @@
 // Whether a value keeps its field's rule: its bytes, its length, its line breaks, its form.
 ghost use mathlib.Core.Path.{_≡_};
 ghost use mathlib.Core.Bool.{true, _&&_};
-ghost use Prim.Native.Nat.{ℕ, _<_};
+ghost use Prim.Native.Nat.{ℕ, _≤_, _<_};
 ghost use lib.Dec.{leb};
+ghost use lib.ListN.{length};
+ghost use lib.Seq.{slice};
 ghost use Rattle.paper.specs.Lists.{every, count};
 ghost use Rattle.paper.specs.Bytes.{isDecoded};
 ghost use Rattle.paper.specs.Rules.{obeys, keeps, linesOk};
-ghost use Rattle.fields.specs.Places.{ruleAt, limits, fieldAt};
-ghost use Rattle.fields.specs.Columns.{ruleColumn, leastColumn, mostColumn, tildeColumn};
+ghost use Rattle.fields.specs.Places.{ruleAt, formed, fieldFlaw, fieldAt};
+ghost use Rattle.fields.specs.Columns.{limitColumn};
 use crate::dates::is_birthday;
 use crate::dates::is_stamp;
 use crate::dose::is_dose;
-use crate::lookup::leasts;
-use crate::lookup::mosts;
-use crate::lookup::rules;
-use crate::lookup::tildes;
+use crate::lookup::least_in;
+use crate::lookup::limits;
+use crate::lookup::most_in;
+use crate::lookup::must_in;
+use crate::lookup::rule_in;
+use crate::lookup::tildes_in;
 use crate::package_number::is_package;
 use crate::sets::CODE;
 use crate::sets::DIGIT;
@@ -122,45 +126,53 @@ pub fn keeps_rule(rule: u8, v: &[u8]) -> bool
     }
 }
 
-// Whether a value keeps a rule, two limits of its length and one of its line breaks.
-pub fn keeps_limits(rule: u8, least: u16, most: u16, tildes: u8, v: &[u8]) -> bool
-    ensures { λ r. ⌜ r ≡ keeps (limits rule least most tildes) (now (v .entry)) ⌝ }
+// Whether a value has a length and a form that its field allows.
+pub fn keeps_form(limits: &[u64; 52], id: usize, v: &[u8]) -> bool
+    requires { ⌜ (now limits ≡ limitColumn) × (id < 52) ⌝ }
+    ensures { λ r. ⌜ r ≡ formed (fieldAt id) (now (v .entry)) ⌝ }
 {
-    if v.len() < least as usize {
+    if v.len() < least_in(limits, id) {
         return false;
     }
-    if v.len() > most as usize {
+    if v.len() > most_in(limits, id) {
         return false;
     }
-    if is_text(v, tildes as usize) {
-        return keeps_rule(rule, v);
+    keeps_rule(rule_in(limits, id), v)
+}
+
+// Whether a present value keeps its field, with the limits of the table handed down by a caller that copies them once.
+pub fn keeps_in(limits: &[u64; 52], id: usize, v: &[u8]) -> bool
+    requires { ⌜ (now limits ≡ limitColumn) × (id < 52) ⌝ }
+    ensures { λ r. ⌜ r ≡ keeps (fieldAt id) (now (v .entry)) ⌝ }
+{
+    if is_text(v, tildes_in(limits, id)) {
+        return keeps_form(limits, id, v);
     }
     false
 }
 
-// Whether a present value keeps its field, with the columns of the table handed down by a caller that copies them once.
-pub fn keeps_in(
-    rules: &[u8; 52],
-    leasts: &[u16; 52],
-    mosts: &[u16; 52],
-    tildes: &[u8; 52],
-    id: usize,
-    v: &[u8],
-) -> bool
-    requires { ⌜ (now rules ≡ ruleColumn) × (now leasts ≡ leastColumn) × (now mosts ≡ mostColumn) × (now tildes ≡ tildeColumn) × (id < 52) ⌝ }
-    ensures { λ r. ⌜ r ≡ keeps (fieldAt id) (now (v .entry)) ⌝ }
+// What is wrong with the value from `from` up to `to` of a text: 7 if it breaks its field, 8 if it must be present and is not, 9 if nothing is.
+pub fn value_flaw(limits: &[u64; 52], id: usize, text: &[u8], from: usize, to: usize) -> u8
+    requires { ⌜ (now limits ≡ limitColumn) × (id < 52) × (from ≤ to) × (to ≤ length (now text)) ⌝ }
+    ensures { λ r. ⌜ r ≡ fieldFlaw (fieldAt id) (slice from to (now (text .entry))) ⌝ }
 {
-    keeps_limits(rules[id], leasts[id], mosts[id], tildes[id], v)
+    if from == to {
+        if must_in(limits, id) {
+            return 8;
+        }
+        return 9;
+    }
+    if keeps_in(limits, id, &text[from..to]) {
+        return 9;
+    }
+    7
 }
 
-// The same, with the columns of the table itself.
+// Whether a value keeps its field, with the limits of the table itself.
 pub fn keeps_field(id: usize, v: &[u8]) -> bool
     requires { ⌜ id < 52 ⌝ }
     ensures { λ r. ⌜ r ≡ keeps (fieldAt id) (now (v .entry)) ⌝ }
 {
-    let rules = rules();
-    let leasts = leasts();
-    let mosts = mosts();
-    let tildes = tildes();
-    keeps_in(&rules, &leasts, &mosts, &tildes, id, v)
+    let limits = limits();
+    keeps_in(&limits, id, v)
 }

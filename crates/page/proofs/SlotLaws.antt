@@ -12,23 +12,17 @@ use Rattle.paper.specs.Lists.{same, number}
 use Rattle.paper.specs.Plan.{Slots, sameSlots}
 use Rattle.page.specs.Laying.{Room, Lays}
 use Rattle.page.proofs.ContentLaws.{Going, turn, room-left, room-first, room-one, regoing, replaced}
+use Rattle.fields.proofs.RuleLaws.{part-is}
 use Rattle.tape.specs.Tape.{shownIn, valuesAt, Span, Spans}
-
--- a part by its start and its length
-pub cut : (a b : ℕ) (l : List ℕ) → take (b - a) (drop a l) ≡ slice a b l
-cut zero b l = let e : b - 0 ≡ b = omega arith in rw e
-cut (suc a) zero l = let e : 0 - suc a ≡ 0 = omega arith in rw e
-cut (suc a) (suc b) [] = take-nil (suc b - suc a)
-cut (suc a) (suc b) (x ∷ l) = let e : suc b - suc a ≡ b - a = omega arith in rw e (cut a b l)
 
 -- a value in the page, and one in the side room
 pub shown-page : (w x : List ℕ) (a b : ℕ) → a < 32768 → take (b - a) (drop a w) ≡ shownIn w x a b
 unfolding shownIn
-shown-page w x a b h = rw (lt-ltb a 32768 h) (cut a b w)
+shown-page w x a b h = rw (lt-ltb a 32768 h) (part-is w a b)
 
 pub shown-side : (w x : List ℕ) (a b : ℕ) → 32768 ≤ a → take (b - (a - 32768)) (drop (a - 32768) x) ≡ shownIn w x a b
 unfolding shownIn
-shown-side w x a b h = rw (le-ltb a 32768 h) (cut (a - 32768) b x)
+shown-side w x a b h = rw (le-ltb a 32768 h) (part-is x (a - 32768) b)
 
 -- the whole of a value
 pub whole : (v : List ℕ) → slice 0 (length v) v ≡ v

@@ -15,7 +15,7 @@ use Rattle.paper.specs.Lists.{concat, if, every}
 use Rattle.paper.specs.Plan.{Head, Row, Plan}
 use Rattle.paper.specs.Writing.{Written, badCall, unsound, tooLong, written, sound, soundHead, soundRow, heading, page, pages, fits, fill, cuttable, firstWithout, place13, place14, lay, fresh}
 use Rattle.paper.specs.Cuts.{Fits, Cut≤}
-use Rattle.paper.proofs.Small.{no, both}
+use Rattle.paper.proofs.Small.{no, both, and-false}
 use Rattle.paper.proofs.AnyCut as C
 use Rattle.paper.proofs.BySize.{rowSize, base, greedy, laySized, none-cut, sized}
 use Rattle.paper.proofs.Rows.{AllSound, all-sound}
@@ -23,10 +23,6 @@ use Rattle.paper.proofs.Sizes.{page-size, page-same}
 use Rattle.paper.proofs.Fewest.{bigs, to-cut, head-fits}
 
 -- ---- tests
-
-and-false : (a : Bool) → a && false ≡ false
-and-false true = refl
-and-false false = refl
 
 -- what never holds is not true
 never : (b : Bool) → (b ≡ true → ⊥) → b ≡ false

@@ -26,6 +26,11 @@ pub neither : (a b : Bool) → a || b ≡ false → (a ≡ false) × (b ≡ fals
 neither true b e = no e
 neither false b e = (refl, e)
 
+-- a test that fails behind another
+pub and-false : (a : Bool) → a && false ≡ false
+and-false true = refl
+and-false false = refl
+
 pub no-not : (a : Bool) → not a ≡ true → a ≡ false
 no-not true e = sym e
 no-not false e = refl

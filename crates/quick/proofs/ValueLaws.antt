@@ -13,14 +13,12 @@ use Rattle.paper.specs.Lists.{if, every, count, isEmpty, All}
 use Rattle.paper.specs.Bytes.{isDecoded}
 use Rattle.paper.specs.Grammar.{Pass}
 use Rattle.paper.specs.Values.{value}
-use Rattle.paper.specs.Fields.{Field, Rule}
-use Rattle.paper.specs.Rules.{obeys, keeps, isZero, settle}
+use Rattle.paper.specs.Fields.{Field}
+use Rattle.paper.specs.Rules.{keeps, isZero, settle}
 use Rattle.paper.specs.Judging.{breaks}
 use Rattle.paper.proofs.Small.{no}
-use Rattle.fields.specs.Places.{ruleAt, fieldAt}
-use Rattle.fields.specs.Columns.{ruleColumn}
-use Rattle.sheet.specs.Flaws.{settleBy}
-use Rattle.sheet.proofs.FlawLaws.{settled-field}
+use Rattle.fields.specs.Places.{fieldAt}
+use Rattle.fields.proofs.RuleLaws.{part-empty}
 use Rattle.quick.specs.Plain.{ordinary, Plainly}
 use Rattle.quick.specs.Passed.{RawAt}
 use Rattle.tape.specs.Tape.{aside, shownIn, Span}
@@ -29,58 +27,49 @@ use Rattle.quick.proofs.PlainLaws.{ordinary-text}
 
 -- ---- absent or not
 
-pub absent-empty : (r : Rule) → isEmpty (settleBy r []) ≡ true
-absent-empty r = go (isZero r [])
-  where
-    go : (b : Bool) → isEmpty (if b [] []) ≡ true
-    go true = refl
-    go false = refl
+module _ (f : Field) where
+  -- nothing counts as absent
+  pub absent-empty : isEmpty (settle f []) ≡ true
+  absent-empty = go (isZero (f .rule) [])
+    where
+      go : (b : Bool) → isEmpty (if b [] []) ≡ true
+      go true = refl
+      go false = refl
 
-pub absent-zero : (r : Rule) (c : ℕ) (v : List ℕ) → isZero r (c ∷ v) ≡ isEmpty (settleBy r (c ∷ v))
-absent-zero r c v = go (isZero r (c ∷ v))
-  where
-    go : (b : Bool) → b ≡ isEmpty (if b [] (c ∷ v))
-    go true = refl
-    go false = refl
-
--- a part that is not empty has a first byte
-pub some-part : (w : List ℕ) (i e : ℕ) → i ≤ e → e ≤ length w → (i ≡ e → ⊥) → (r : Rule) → isZero r (slice i e w) ≡ isEmpty (settleBy r (slice i e w))
-some-part w i e h l n r = go (slice i e w) (length-slice i e w l)
-  where
-    go : (v : List ℕ) → length v ≡ e - i → isZero r v ≡ isEmpty (settleBy r v)
-    go [] q = absurd (n (omega arith))
-    go (c ∷ v) q = absent-zero r c v
-
-module _ (rules : List ℕ) (id : ℕ) (e : rules ≡ ruleColumn) (v : List ℕ) where
-  settled : settleBy (ruleAt (getD rules id 0)) v ≡ settle (fieldAt id) v
-  settled = settled-field rules (settleBy (ruleAt (getD rules id 0)) v) v id e refl
+  -- of what is there only a dose of 0
+  pub absent-zero : (v : List ℕ) → isEmpty v ≡ false → isZero (f .rule) v ≡ isEmpty (settle f v)
+  absent-zero v e = go (isZero (f .rule) v)
+    where
+      go : (b : Bool) → b ≡ isEmpty (if b [] v)
+      go true = refl
+      go false = sym e
 
   -- an absent value
-  pub settled-none : isEmpty (settleBy (ruleAt (getD rules id 0)) v) ≡ true → [] ≡ settle (fieldAt id) v
-  settled-none h = go (settle (fieldAt id) v) (sym (ap isEmpty settled) ∙ h)
+  pub settled-none : (v : List ℕ) → isEmpty (settle f v) ≡ true → [] ≡ settle f v
+  settled-none v = go (settle f v)
     where
       go : (u : List ℕ) → isEmpty u ≡ true → [] ≡ u
       go [] q = refl
       go (c ∷ u) q = no (sym q)
 
   -- a present one is what counts
-  pub settled-some : isEmpty (settleBy (ruleAt (getD rules id 0)) v) ≡ false → v ≡ settle (fieldAt id) v
-  settled-some h = go (isZero (fieldAt id .rule) v) (sym (ap isEmpty settled) ∙ h)
+  pub settled-some : (v : List ℕ) → isEmpty (settle f v) ≡ false → v ≡ settle f v
+  settled-some v = go (isZero (f .rule) v)
     where
       go : (b : Bool) → isEmpty (if b [] v) ≡ false → v ≡ if b [] v
       go true q = no q
       go false q = refl
 
--- a present value has a byte
-pub not-empty : (w : List ℕ) (i e : ℕ) → i ≤ e → (r : Rule) → isEmpty (settleBy r (slice i e w)) ≡ false → i < e
-not-empty w i e h r q = go (ltb i e) refl
-  where
-    go : (b : Bool) → ltb i e ≡ b → i < e
-    go true p = ltb-true i e p
-    go false p =
-        let x = ltb-false i e p in
-        let y : i ≡ e = omega arith in
-        no (sym (absent-empty r) ∙ ap (λ (v : List ℕ). isEmpty (settleBy r v)) (sym (rw y (slice-empty e w))) ∙ q)
+  -- and has a byte
+  pub not-empty : (w : List ℕ) (i e : ℕ) → i ≤ e → isEmpty (settle f (slice i e w)) ≡ false → i < e
+  not-empty w i e h q = go (ltb i e) refl
+    where
+      go : (b : Bool) → ltb i e ≡ b → i < e
+      go true p = ltb-true i e p
+      go false p =
+          let x = ltb-false i e p in
+          let y : i ≡ e = omega arith in
+          no (sym absent-empty ∙ ap (λ (v : List ℕ). isEmpty (settle f v)) (part-empty w i e y) ∙ q)
 
 -- ---- a value of ordinary bytes
 
@@ -91,9 +80,6 @@ ordinary-decoded (c ∷ v) a = rw (ordinary-text c (a .0) .0) (ordinary-decoded 
 pub ordinary-whole : (v : List ℕ) → All (Pass ordinary) v → count 126 v ≡ 0
 ordinary-whole [] a = refl
 ordinary-whole (c ∷ v) a = rw (ordinary-text c (a .0) .1) (ordinary-whole v (a .1))
-
-pub keeps-text : (f : Field) (v : List ℕ) → every isDecoded v ≡ true → count 126 v ≤ f .tildes → f .least ≤ length v → length v ≤ f .most → obeys (f .rule) v ≡ true → keeps f v ≡ true
-keeps-text f v d t h k o = rw (d, le-leb (f .least) (length v) h, le-leb (length v) (f .most) k, le-leb (count 126 v) (f .tildes) t, o)
 
 -- the raw bytes of a plain value
 pub plain-raw : {w : List ℕ} {at q e t : ℕ} → Plainly w at q e t → RawAt w at q e

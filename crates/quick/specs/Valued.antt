@@ -10,18 +10,15 @@ use Rattle.paper.specs.Values.{value}
 use Rattle.paper.specs.Rules.{settle}
 use Rattle.paper.specs.Judging.{breaks}
 use Rattle.fields.specs.Places.{fieldAt}
-use Rattle.fields.specs.Columns.{keyColumn, ruleColumn, leastColumn, mostColumn, tildeColumn}
+use Rattle.fields.specs.Columns.{limitColumn}
 use Rattle.quick.specs.Plain.{oddTable}
 use Rattle.quick.specs.Passed.{RawAt}
 use Rattle.tape.specs.Tape.{shownIn, Span}
 
--- the tables that are copied once and handed down: odd bytes; rules, least and greatest lengths, and line breaks of the fields
-pub record Tables (odd rules leasts mosts tildes : List ℕ) : Type 0 where
+-- the tables that are copied once and handed down: odd bytes, and the limits of the fields
+pub record Tables (odd limits : List ℕ) : Type 0 where
   pub odd-is : odd ≡ oddTable
-  pub rules-are : rules ≡ ruleColumn
-  pub leasts-are : leasts ≡ leastColumn
-  pub mosts-are : mosts ≡ mostColumn
-  pub tildes-are : tildes ≡ tildeColumn
+  pub limits-are : limits ≡ limitColumn
 
 -- the value in quotes q from `at` on ends at the quote z; by the field of that place it is fine; the numbers a and b tell what counts of it, and m bytes of the side room are in use
 pub record Valued (w side : List ℕ) (at q id z a b m : ℕ) : Type 0 where

@@ -64,16 +64,13 @@ pub fn take_tag(
     keys: &[u64; 52],
     letters: &[u8; 1280],
     odd: &[u8; 256],
-    rules: &[u8; 52],
-    leasts: &[u16; 52],
-    mosts: &[u16; 52],
-    tildes: &[u8; 52],
+    limits: &[u64; 52],
     tape: &mut [u16],
     f: usize,
     side: &mut [u8],
     used: usize,
 ) -> Tag
-    requires { ⌜ (p < from) × (from ≤ length (now page)) × (length (now page) ≤ 1400) × (kind < 10) × Names (now keys) (now letters) × Tables (now odd) (now rules) (now leasts) (now mosts) (now tildes)
+    requires { ⌜ (p < from) × (from ≤ length (now page)) × (length (now page) ≤ 1400) × (kind < 10) × Names (now keys) (now letters) × Tables (now odd) (now limits)
         × (f ≤ length (now tape)) × (length (now tape) < 65536) × (used ≤ length (now side)) × (length (now side) < aside) ⌝ }
     ensures { λ r. ⌜ ((r .at ≡ 0 → ⊥) → TagIn (now (page .entry)) (kindAt kind) f p from (r .at) (now (tape .entry)) (now (tape .exit)) (now (side .entry)) (now (side .exit)) used (r .used) (r .next) (r .needs)) ⌝ }
 {
@@ -95,10 +92,7 @@ pub fn take_tag(
         keys,
         letters,
         odd,
-        rules,
-        leasts,
-        mosts,
-        tildes,
+        limits,
         tape,
         base,
         side,
@@ -159,17 +153,14 @@ fn take_start(
     keys: &[u64; 52],
     letters: &[u8; 1280],
     odd: &[u8; 256],
-    rules: &[u8; 52],
-    leasts: &[u16; 52],
-    mosts: &[u16; 52],
-    tildes: &[u8; 52],
+    limits: &[u64; 52],
     tape: &mut [u16],
     f: usize,
     side: &mut [u8],
     used: usize,
 ) -> Step
     requires { ⌜ (s ≡ i + until isSpace (drop i (now page))) × (i ≤ s) × (s < length (now page)) × (getD (now page) s 0 ≡ 60) × (length (now page) ≤ 1400) × Sound st × Names (now keys) (now letters)
-        × Tables (now odd) (now rules) (now leasts) (now mosts) (now tildes) × (f ≤ length (now tape)) × (length (now tape) < 65536) × (used ≤ length (now side)) × (length (now side) < aside) ⌝ }
+        × Tables (now odd) (now limits) × (f ≤ length (now tape)) × (length (now tape) < 65536) × (used ≤ length (now side)) × (length (now side) < aside) ⌝ }
     ensures { λ r. ⌜ ((r .at ≡ 0 → ⊥) → StepIn (now (page .entry)) i (r .at) st (r .st) (now (tape .entry)) (now (tape .exit)) f (r .next) (now (side .entry)) (now (side .exit)) used (r .used)) ⌝ }
 {
     let b = byte_or(page, s + 1);
@@ -191,10 +182,7 @@ fn take_start(
         keys,
         letters,
         odd,
-        rules,
-        leasts,
-        mosts,
-        tildes,
+        limits,
         tape,
         f,
         side,
@@ -250,16 +238,13 @@ fn take_root(
     keys: &[u64; 52],
     letters: &[u8; 1280],
     odd: &[u8; 256],
-    rules: &[u8; 52],
-    leasts: &[u16; 52],
-    mosts: &[u16; 52],
-    tildes: &[u8; 52],
+    limits: &[u64; 52],
     tape: &mut [u16],
     first: usize,
     side: &mut [u8],
     used: usize,
 ) -> Step
-    requires { ⌜ (1 ≤ length (now page)) × (length (now page) ≤ 1400) × Names (now keys) (now letters) × Tables (now odd) (now rules) (now leasts) (now mosts) (now tildes)
+    requires { ⌜ (1 ≤ length (now page)) × (length (now page) ≤ 1400) × Names (now keys) (now letters) × Tables (now odd) (now limits)
         × (first ≤ length (now tape)) × (length (now tape) < 65536) × (used ≤ length (now side)) × (length (now side) < aside) ⌝ }
     ensures { λ r. ⌜ ((r .at ≡ 0 → ⊥) → On (now (page .entry)) (now (tape .entry)) (now (tape .exit)) (now (side .entry)) (now (side .exit)) used (r .used) first (r .next) (r .at) (r .st)) ⌝ }
 {
@@ -280,10 +265,7 @@ fn take_root(
         keys,
         letters,
         odd,
-        rules,
-        leasts,
-        mosts,
-        tildes,
+        limits,
         tape,
         first,
         side,
@@ -317,34 +299,18 @@ pub fn take_page(
     keys: &[u64; 52],
     letters: &[u8; 1280],
     odd: &[u8; 256],
-    rules: &[u8; 52],
-    leasts: &[u16; 52],
-    mosts: &[u16; 52],
-    tildes: &[u8; 52],
+    limits: &[u64; 52],
     tape: &mut [u16],
     first: usize,
     side: &mut [u8],
     used: usize,
 ) -> Made
-    requires { ⌜ (1 ≤ length (now page)) × (length (now page) ≤ 1400) × Names (now keys) (now letters) × Tables (now odd) (now rules) (now leasts) (now mosts) (now tildes)
+    requires { ⌜ (1 ≤ length (now page)) × (length (now page) ≤ 1400) × Names (now keys) (now letters) × Tables (now odd) (now limits)
         × (first ≤ length (now tape)) × (length (now tape) < 65536) × (used ≤ length (now side)) × (length (now side) < aside) ⌝ }
     ensures { λ r. ⌜ ((r .end ≡ 0 → ⊥) → Makes (now (page .entry)) (now (tape .entry)) (now (tape .exit)) first (r .end) (now (side .entry)) (now (side .exit)) used (r .used)
         × (r .used ≤ used + length (now (page .entry)))) ⌝ }
 {
-    let root = take_root(
-        page,
-        keys,
-        letters,
-        odd,
-        rules,
-        leasts,
-        mosts,
-        tildes,
-        tape,
-        first,
-        side,
-        used,
-    );
+    let root = take_root(page, keys, letters, odd, limits, tape, first, side, used);
     if root.at == 0 {
         return Made { end: 0, used: 0 };
     }
@@ -365,23 +331,7 @@ pub fn take_page(
             st = close(st);
             i = r;
         } else {
-            let step = take_start(
-                page,
-                i,
-                s,
-                st,
-                keys,
-                letters,
-                odd,
-                rules,
-                leasts,
-                mosts,
-                tildes,
-                tape,
-                f,
-                side,
-                m,
-            );
+            let step = take_start(page, i, s, st, keys, letters, odd, limits, tape, f, side, m);
             if step.at == 0 {
                 return Made { end: 0, used: 0 };
             }

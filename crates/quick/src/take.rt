@@ -138,16 +138,13 @@ fn take_attr(
     keys: &[u64; 52],
     letters: &[u8; 1280],
     odd: &[u8; 256],
-    rules: &[u8; 52],
-    leasts: &[u16; 52],
-    mosts: &[u16; 52],
-    tildes: &[u8; 52],
+    limits: &[u64; 52],
     tape: &mut [u16],
     base: usize,
     side: &mut [u8],
     used: usize,
 ) -> Taken
-    requires { ⌜ (a ≤ length (now page)) × (length (now page) ≤ 1400) × (kind < 10) × Names (now keys) (now letters) × Tables (now odd) (now rules) (now leasts) (now mosts) (now tildes)
+    requires { ⌜ (a ≤ length (now page)) × (length (now page) ≤ 1400) × (kind < 10) × Names (now keys) (now letters) × Tables (now odd) (now limits)
         × (base + 2 * length (fieldsOf (kindAt kind)) ≤ length (now tape)) × (length (now tape) < 65536) × (used ≤ length (now side)) × (length (now side) < aside) ⌝ }
     ensures { λ r. ⌜ ((r .at ≡ 0 → ⊥) → AttrIn (now (page .entry)) (kindAt kind) base a (r .at) (now (tape .entry)) (now (tape .exit)) (now (side .entry)) (now (side .exit)) used (r .used)) ⌝ }
 {
@@ -160,19 +157,7 @@ fn take_attr(
         return Taken { at: 0, used: 0 };
     }
     let id = first_in(letters, kind) + named.field;
-    let judged = take_value(
-        page,
-        named.at,
-        named.quote,
-        id,
-        odd,
-        rules,
-        leasts,
-        mosts,
-        tildes,
-        side,
-        used,
-    );
+    let judged = take_value(page, named.at, named.quote, id, odd, limits, side, used);
     if judged.quote == 0 {
         return Taken { at: 0, used: 0 };
     }
@@ -203,16 +188,13 @@ pub fn take_attrs(
     keys: &[u64; 52],
     letters: &[u8; 1280],
     odd: &[u8; 256],
-    rules: &[u8; 52],
-    leasts: &[u16; 52],
-    mosts: &[u16; 52],
-    tildes: &[u8; 52],
+    limits: &[u64; 52],
     tape: &mut [u16],
     base: usize,
     side: &mut [u8],
     used: usize,
 ) -> Taken
-    requires { ⌜ (from ≤ length (now page)) × (length (now page) ≤ 1400) × (kind < 10) × Names (now keys) (now letters) × Tables (now odd) (now rules) (now leasts) (now mosts) (now tildes)
+    requires { ⌜ (from ≤ length (now page)) × (length (now page) ≤ 1400) × (kind < 10) × Names (now keys) (now letters) × Tables (now odd) (now limits)
         × (base + 2 * length (fieldsOf (kindAt kind)) ≤ length (now tape)) × (length (now tape) < 65536) × (used ≤ length (now side)) × (length (now side) < aside) ⌝ }
     ensures { λ r. ⌜ ((r .at ≡ 0 → ⊥) → InsideIn (now (page .entry)) (kindAt kind) base from (r .at) (now (tape .entry)) (now (tape .exit)) (now (side .entry)) (now (side .exit)) used (r .used)) ⌝ }
 {
@@ -238,10 +220,7 @@ pub fn take_attrs(
             keys,
             letters,
             odd,
-            rules,
-            leasts,
-            mosts,
-            tildes,
+            limits,
             tape,
             base,
             side,

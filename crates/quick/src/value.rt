@@ -7,16 +7,17 @@ ghost use lib.Seq.{slice};
 ghost use Rattle.paper.specs.Lists.{isEmpty, every, count};
 ghost use Rattle.paper.specs.Bytes.{isDecoded};
 ghost use Rattle.paper.specs.Grammar.{Quote};
-ghost use Rattle.paper.specs.Rules.{keeps};
-ghost use Rattle.fields.specs.Places.{ruleAt, fieldAt};
-ghost use Rattle.fields.specs.Columns.{ruleColumn, leastColumn, mostColumn};
-ghost use Rattle.sheet.specs.Flaws.{settleBy};
+ghost use Rattle.paper.specs.Rules.{settle, keeps};
+ghost use Rattle.fields.specs.Places.{fieldAt};
+ghost use Rattle.fields.specs.Columns.{limitColumn};
 ghost use Rattle.tape.specs.Tape.{aside};
 ghost use Rattle.quick.specs.Valued.{Tables, Valued, Grown};
 use crate::coded::coded_value;
 use crate::plain_value;
 use fields::dose::is_zero;
-use fields::rules::keeps_rule;
+use fields::lookup::rule_in;
+use fields::lookup::tildes_in;
+use fields::rules::keeps_form;
 
 // A start on the tape from here on says that the value lies in the side room.
 pub const ASIDE: usize = 32768;
@@ -29,42 +30,24 @@ pub struct Judged {
     pub used: usize,
 }
 
-// Whether the value from `from` to `to` counts as absent under a rule: it is empty, or a dose "0".
-fn is_absent(room: &[u8], from: usize, to: usize, rule: u8) -> bool
-    requires { ⌜ (from ≤ to) × (to ≤ length (now room)) ⌝ }
-    ensures { λ r. ⌜ r ≡ isEmpty (settleBy (ruleAt rule) (slice from to (now (room .entry)))) ⌝ }
+// Whether the value from `from` to `to` counts as absent in the field at a place of the table: it is empty, or a dose "0".
+fn is_absent(room: &[u8], from: usize, to: usize, id: usize, limits: &[u64; 52]) -> bool
+    requires { ⌜ (from ≤ to) × (to ≤ length (now room)) × (id < 52) × (now limits ≡ limitColumn) ⌝ }
+    ensures { λ r. ⌜ r ≡ isEmpty (settle (fieldAt id) (slice from to (now (room .entry)))) ⌝ }
 {
     if from == to {
         return true;
     }
-    is_zero(rule, &room[from..to])
+    is_zero(rule_in(limits, id), &room[from..to])
 }
 
 // Whether the value from `at` to `end` keeps the field at a place of the table, if its bytes may stand in a value, and of line breaks it has no more than it may.
-fn keeps_text(
-    room: &[u8],
-    at: usize,
-    end: usize,
-    id: usize,
-    rules: &[u8; 52],
-    leasts: &[u16; 52],
-    mosts: &[u16; 52],
-) -> bool
-    requires { ⌜ (at ≤ end) × (end ≤ length (now room)) × (id < 52) × (now rules ≡ ruleColumn) × (now leasts ≡ leastColumn) × (now mosts ≡ mostColumn)
+fn keeps_text(room: &[u8], at: usize, end: usize, id: usize, limits: &[u64; 52]) -> bool
+    requires { ⌜ (at ≤ end) × (end ≤ length (now room)) × (id < 52) × (now limits ≡ limitColumn)
         × (every isDecoded (slice at end (now room)) ≡ true) × (count 126 (slice at end (now room)) ≤ fieldAt id .tildes) ⌝ }
     ensures { λ r. ⌜ (r ≡ true → keeps (fieldAt id) (slice at end (now (room .entry))) ≡ true) ⌝ }
 {
-    let n = end - at;
-    if n < leasts[id] as usize {
-        return false;
-    }
-    if n > mosts[id] as usize {
-        return false;
-    }
-    if rules[id] == 0 {
-        return true;
-    }
-    keeps_rule(rules[id], &room[at..end])
+    keeps_form(limits, id, &room[at..end])
 }
 
 // A value with odd bytes: it is decoded into the side room behind what is in use.
@@ -74,14 +57,11 @@ fn odd_value(
     q: u8,
     id: usize,
     odd: &[u8; 256],
-    rules: &[u8; 52],
-    leasts: &[u16; 52],
-    mosts: &[u16; 52],
-    tildes: &[u8; 52],
+    limits: &[u64; 52],
     side: &mut [u8],
     used: usize,
 ) -> Judged
-    requires { ⌜ (0 < at) × (at ≤ length (now page)) × (length (now page) ≤ 1400) × Quote q × (id < 52) × Tables (now odd) (now rules) (now leasts) (now mosts) (now tildes)
+    requires { ⌜ (0 < at) × (at ≤ length (now page)) × (length (now page) ≤ 1400) × Quote q × (id < 52) × Tables (now odd) (now limits)
         × (used ≤ length (now side)) × (length (now side) < aside) ⌝ }
     ensures { λ r. ⌜ ((r .quote ≡ 0 → ⊥) → Valued (now (page .entry)) (now (side .exit)) at q id (r .quote) (r .start) (r .end) (r .used)
         × Grown (now (side .entry)) (now (side .exit)) used (r .used) × (r .used + at ≤ used + r .quote)) ⌝ }
@@ -95,7 +75,7 @@ fn odd_value(
             used: 0,
         };
     }
-    if is_absent(side, used, coded.end, rules[id]) {
+    if is_absent(side, used, coded.end, id, limits) {
         return Judged {
             quote: coded.quote,
             start: at,
@@ -103,7 +83,7 @@ fn odd_value(
             used: used,
         };
     }
-    if coded.breaks > tildes[id] as usize {
+    if coded.breaks > tildes_in(limits, id) {
         return Judged {
             quote: 0,
             start: 0,
@@ -111,7 +91,7 @@ fn odd_value(
             used: 0,
         };
     }
-    if keeps_text(side, used, coded.end, id, rules, leasts, mosts) {
+    if keeps_text(side, used, coded.end, id, limits) {
         return Judged {
             quote: coded.quote,
             start: used + ASIDE,
@@ -134,35 +114,20 @@ pub fn take_value(
     q: u8,
     id: usize,
     odd: &[u8; 256],
-    rules: &[u8; 52],
-    leasts: &[u16; 52],
-    mosts: &[u16; 52],
-    tildes: &[u8; 52],
+    limits: &[u64; 52],
     side: &mut [u8],
     used: usize,
 ) -> Judged
-    requires { ⌜ (0 < at) × (at ≤ length (now page)) × (length (now page) ≤ 1400) × Quote q × (id < 52) × Tables (now odd) (now rules) (now leasts) (now mosts) (now tildes)
+    requires { ⌜ (0 < at) × (at ≤ length (now page)) × (length (now page) ≤ 1400) × Quote q × (id < 52) × Tables (now odd) (now limits)
         × (used ≤ length (now side)) × (length (now side) < aside) ⌝ }
     ensures { λ r. ⌜ ((r .quote ≡ 0 → ⊥) → Valued (now (page .entry)) (now (side .exit)) at q id (r .quote) (r .start) (r .end) (r .used)
         × Grown (now (side .entry)) (now (side .exit)) used (r .used) × (r .used + at ≤ used + r .quote)) ⌝ }
 {
     let plain = plain_value(page, at, q, odd);
     if plain.quote == 0 {
-        return odd_value(
-            page,
-            at,
-            q,
-            id,
-            odd,
-            rules,
-            leasts,
-            mosts,
-            tildes,
-            side,
-            used,
-        );
+        return odd_value(page, at, q, id, odd, limits, side, used);
     }
-    if is_absent(page, at, plain.end, rules[id]) {
+    if is_absent(page, at, plain.end, id, limits) {
         return Judged {
             quote: plain.quote,
             start: at,
@@ -170,7 +135,7 @@ pub fn take_value(
             used: used,
         };
     }
-    if keeps_text(page, at, plain.end, id, rules, leasts, mosts) {
+    if keeps_text(page, at, plain.end, id, limits) {
         return Judged {
             quote: plain.quote,
             start: at,

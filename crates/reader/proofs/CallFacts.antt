@@ -11,9 +11,8 @@ use lib.ListN.{length, take, drop, getD, drop-of-length-le}
 use lib.Seq.{drop-cons}
 use borrow.Author.Tests.{leb-true, le-leb, lt-leb}
 use Rattle.paper.specs.Calls.{inside, pagesAt, roomy, rowRoom, textRoom}
-use Rattle.paper.proofs.Small.{both}
+use Rattle.paper.proofs.Small.{both, and-false}
 use Rattle.paper.proofs.CallLaws.{inside-true}
-use Rattle.fields.proofs.RuleLaws.{and-false}
 use Rattle.plan.specs.Numbers.{rowsLent}
 
 -- ---- the loop over the pages

@@ -12,10 +12,7 @@ ghost use Rattle.page.specs.Walking.{blanks, Blank};
 ghost use Rattle.reader.specs.Tapes.{Taken, AllSheets};
 use crate::joining::page_at;
 use fields::lookup::keys;
-use fields::lookup::leasts;
-use fields::lookup::mosts;
-use fields::lookup::rules;
-use fields::lookup::tildes;
+use fields::lookup::limits;
 use plan::Plan;
 use quick::names::letter_table;
 use quick::odd_table;
@@ -48,16 +45,13 @@ fn take(
     keys: &[u64; 52],
     letters: &[u8; 1280],
     odd: &[u8; 256],
-    rules: &[u8; 52],
-    leasts: &[u16; 52],
-    mosts: &[u16; 52],
-    tildes: &[u8; 52],
+    limits: &[u64; 52],
     tape: &mut [u16],
     first: usize,
     side: &mut [u8],
     used: usize,
 ) -> Made
-    requires { ⌜ Names (now keys) (now letters) × Tables (now odd) (now rules) (now leasts) (now mosts) (now tildes)
+    requires { ⌜ Names (now keys) (now letters) × Tables (now odd) (now limits)
         × (first ≤ length (now tape)) × (length (now tape) < 65536) × (used ≤ length (now side)) × (length (now side) < aside) ⌝ }
     ensures { λ r. ⌜ ((r .end ≡ 0 → ⊥) → Makes (now (page .entry)) (now (tape .entry)) (now (tape .exit)) first (r .end) (now (side .entry)) (now (side .exit)) used (r .used)) ⌝ }
 {
@@ -68,20 +62,7 @@ fn take(
     if n > Plan::PAGE {
         return Made { end: 0, used: 0 };
     }
-    take_page(
-        page,
-        keys,
-        letters,
-        odd,
-        rules,
-        leasts,
-        mosts,
-        tildes,
-        tape,
-        first,
-        side,
-        used,
-    )
+    take_page(page, keys, letters, odd, limits, tape, first, side, used)
 }
 
 // Takes the pages of a call onto the tape, if each is surely a sheet.
@@ -98,10 +79,7 @@ pub fn take_all<'a>(
     let keys = keys();
     let letters = letter_table();
     let odd = odd_table();
-    let rules = rules();
-    let leasts = leasts();
-    let mosts = mosts();
-    let tildes = tildes();
+    let limits = limits();
     let n = starts.len();
     let mut firsts = [BLANKS; 10];
     let mut m = 0;
@@ -113,10 +91,7 @@ pub fn take_all<'a>(
             &keys,
             &letters,
             &odd,
-            &rules,
-            &leasts,
-            &mosts,
-            &tildes,
+            &limits,
             tape,
             firsts[k],
             side,

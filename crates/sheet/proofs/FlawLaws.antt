@@ -21,15 +21,13 @@ use Rattle.paper.specs.Plan.{Slots, slot}
 use Rattle.paper.specs.Judging.{names, slotsOf, breaks, broken, missing, clash, mpVersion, mpOver, mpHalf}
 use Rattle.paper.proofs.Small.{no, both, neither, if-same, below-at}
 use Rattle.room.specs.Laid.{laid}
-use Rattle.fields.specs.Places.{kindAt, noField, ruleAt, fieldAt, placeIn, firstOf, countOf, onesOf, othersOf}
-use Rattle.fields.specs.Columns.{ruleColumn, mustColumn}
+use Rattle.fields.specs.Places.{kindAt, noField, ruleAt, ruleNumber, fieldAt, fieldFlaw, placeIn, firstOf, countOf, onesOf, othersOf}
 use Rattle.fields.proofs.TableLaws.{field-at, code-back}
-use Rattle.fields.proofs.ColumnLaws.{rule-at, must-at, bit-one}
 use Rattle.fields.proofs.RuleLaws.{rule-back}
 use Rattle.sheet.specs.declared.found.Raw.{Raw}
 use Rattle.sheet.specs.Fold.{flaw, needsW}
 use Rattle.sheet.specs.Found.{settledIn, thereIn, noRaw, shownBy, rawsAt, told, thereAt, Tells}
-use Rattle.sheet.specs.Flaws.{settleBy, fieldFlaw, fieldsFlaw, pagesFlaw, digitsFlaw, clashThere, clashAt}
+use Rattle.sheet.specs.Flaws.{settleBy, fieldsFlaw, pagesFlaw, digitsFlaw, clashThere, clashAt}
 use Rattle.sheet.proofs.FoundLaws.{slots-found, shown-at, there-at, there-place}
 
 -- ---- a value that a span shows
@@ -96,42 +94,9 @@ settled-whole r u v b e f z = rw (← e, ← f, z)
 
 -- ---- one field
 
--- the rule in the column is the field's
-rule-in : (l : List ℕ) (id : ℕ) → l ≡ ruleColumn → ruleAt (getD l id 0) ≡ fieldAt id .rule
-rule-in l id e = ap (λ (s : List ℕ). ruleAt (getD s id 0)) e ∙ ap ruleAt (rule-at id) ∙ rule-back (fieldAt id .rule)
-
--- the value that counts under the rule in the column is that of the field
-pub settled-field : (l u v : List ℕ) (id : ℕ) → l ≡ ruleColumn → u ≡ settleBy (ruleAt (getD l id 0)) v → u ≡ settle (fieldAt id) v
-settled-field l u v id e f = f ∙ rw (rule-in l id e)
-
--- the mark * in the column is the field's
-pub must-in : (l : List ℕ) (id : ℕ) → l ≡ mustColumn → eqb (getD l id 0) 1 ≡ fieldAt id .must
-must-in l id e = ap (λ (s : List ℕ). eqb (getD s id 0) 1) e ∙ ap (λ (n : ℕ). eqb n 1) (must-at id) ∙ bit-one (fieldAt id .must)
-
-module _ (f : Field) (v : List ℕ) where
-  -- absent, though it must be present
-  pub flaw-missing : [] ≡ v → f .must ≡ true → 8 ≡ fieldFlaw f v
-  unfolding fieldFlaw
-  flaw-missing e m = rw (← e, m)
-
-  -- absent
-  pub flaw-absent : [] ≡ v → f .must ≡ false → 9 ≡ fieldFlaw f v
-  unfolding fieldFlaw
-  flaw-absent e m = rw (← e, m)
-
-  -- present, and it keeps its field
-  pub flaw-kept : isEmpty v ≡ false → keeps f v ≡ true → 9 ≡ fieldFlaw f v
-  unfolding fieldFlaw
-  flaw-kept e k = rw (e, k) (go (f .must))
-    where
-      go : (b : Bool) → _≡_ {A = ℕ} 9 (if (b && false) 8 9)
-      go true = refl
-      go false = refl
-
-  -- present, and it breaks its field
-  pub flaw-broken : isEmpty v ≡ false → keeps f v ≡ false → 7 ≡ fieldFlaw f v
-  unfolding fieldFlaw
-  flaw-broken e k = rw (e, k)
+-- the value that counts under the rule's number is that of the field
+pub settled-field : (r : ℕ) (u v : List ℕ) (id : ℕ) → r ≡ ruleNumber (fieldAt id .rule) → u ≡ settleBy (ruleAt r) v → u ≡ settle (fieldAt id) v
+settled-field r u v id e f = f ∙ ap (λ (n : ℕ). settleBy (ruleAt n) v) e ∙ ap (λ (q : Rule). settleBy q v) (rule-back (fieldAt id .rule))
 
 -- ---- the fields one after another
 

@@ -15,11 +15,10 @@ use Rattle.paper.specs.Grammar.{Attr}
 use Rattle.paper.specs.Fields.{Kind, Field, fieldsOf}
 use Rattle.paper.specs.Values.{value}
 use Rattle.paper.specs.Judging.{names, found, slotsOf, lettersOf}
-use Rattle.paper.proofs.Small.{no, neither, same-comm, same-self, same-eq, below-at}
+use Rattle.paper.proofs.Small.{no, neither, and-false, same-comm, same-self, same-eq, below-at}
 use Rattle.paper.proofs.Element.{distinct}
 use Rattle.markup.specs.Walk.{Inside, more, stops, insideAt}
 use Rattle.fields.specs.Places.{kindAt, noField, placeIn, countOf}
-use Rattle.fields.proofs.RuleLaws.{and-false}
 use Rattle.fields.proofs.TableLaws.{known, found-letters}
 use Rattle.sheet.specs.declared.found.Raw.{Raw}
 use Rattle.sheet.specs.Fold.{strange}
@@ -113,14 +112,6 @@ there-more (f ∷ fs) l n r d =
     go false q x ih = rw (there-other l n r (f .letters) q, ih)
 
 -- ---- spans
-
--- a part of a page, and what a function is handed of it
-pub part-is : (w : List ℕ) (a e : ℕ) → take (e - a) (drop a w) ≡ slice a e w
-part-is w zero e = rw (sub-zero e)
-part-is [] (suc a) zero = take-nil (zero - suc a)
-part-is [] (suc a) (suc e) = take-nil (suc e - suc a)
-part-is (x ∷ w) (suc a) zero = rw (zero-sub (suc a))
-part-is (x ∷ w) (suc a) (suc e) = rw (suc-sub-suc e a) (part-is w a e)
 
 -- what the span at a place shows, and whether it is there
 pub shown-at : (w : List ℕ) (n : ℕ) (rs : List Raw) (j : ℕ) → j < n → getD (rawsAt w n rs) j [] ≡ shownBy w (getD rs j noRaw)

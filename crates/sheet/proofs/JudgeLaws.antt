@@ -35,10 +35,6 @@ use Rattle.sheet.proofs.FoldContent.{fold-answer}
 
 -- ---- one tag of the pass
 
--- the part of a page that is lent is the page's slice
-pub part-is : (w : List ℕ) (a e : ℕ) → a ≤ e → take (e - a) (drop a w) ≡ slice a e w
-part-is w a e h = let n : a + (e - a) ≡ e = omega arith in take-drop a (e - a) w ∙ ap (λ (k : ℕ). slice a k w) n
-
 behind-end : (s : St) (ts : List Tag) → judgeFold s (end ∷ ts) ≡ judgeFold (closed s) ts
 unfolding judgeFold
 behind-end s ts = refl

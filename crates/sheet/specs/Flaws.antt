@@ -6,11 +6,11 @@ use mathlib.Core.List.{List, [], _∷_}
 use Prim.Native.Nat.{ℕ}
 use lib.Dec.{eqb, ltb}
 use lib.ListN.{length, getD}
-use Rattle.paper.specs.Lists.{if, isEmpty}
+use Rattle.paper.specs.Lists.{if}
 use Rattle.paper.specs.Fields.{Kind, Rule, Field, fieldsOf}
 use Rattle.paper.specs.Rules.{isZero}
 use Rattle.paper.specs.Plan.{Slots}
-use Rattle.paper.specs.Judging.{breaks, broken, missing, mpOver, mpHalf}
+use Rattle.paper.specs.Judging.{broken, missing, mpOver, mpHalf}
 use Rattle.fields.specs.Places.{onesOf, othersOf}
 use Rattle.sheet.specs.declared.found.Raw.{Raw}
 use Rattle.sheet.specs.Found.{thereAt}
@@ -18,10 +18,6 @@ use Rattle.sheet.specs.Found.{thereAt}
 -- the value that counts under a rule
 abbrev pub settleBy : Rule → List ℕ → List ℕ
 settleBy r v = if (isZero r v) [] v
-
--- the fault of one field: 7 if its value breaks it, 8 if it must be present and is not, 9 if none
-unfoldable pub fieldFlaw : Field → List ℕ → ℕ
-fieldFlaw f v = if (breaks f v) 7 (if (f .must && isEmpty v) 8 9)
 
 -- the least fault of the fields: 7 if some value breaks its field, else 8 if one is missing, else m
 unfoldable pub fieldsFlaw : ℕ → List Field → Slots → ℕ

@@ -9,24 +9,20 @@ ghost use Rattle.paper.specs.Fields.{fieldsOf};
 ghost use Rattle.paper.specs.Grammar.{Attr};
 ghost use Rattle.paper.specs.Rules.{settle};
 ghost use Rattle.paper.specs.Judging.{names, slotsOf, broken, mpVersion};
-ghost use Rattle.fields.specs.Places.{kindAt, ruleAt, fieldAt};
-ghost use Rattle.fields.specs.Columns.{ruleColumn, leastColumn, mostColumn, tildeColumn, mustColumn};
+ghost use Rattle.fields.specs.Places.{kindAt, ruleAt, fieldAt, fieldFlaw};
+ghost use Rattle.fields.specs.Columns.{limitColumn};
 ghost use Rattle.sheet.specs.Fold.{flaw, needsW};
 ghost use Rattle.sheet.specs.Found.{shownBy, told, Tells};
-ghost use Rattle.sheet.specs.Flaws.{settleBy, fieldFlaw, fieldsFlaw, pagesFlaw, digitsFlaw, clashAt};
+ghost use Rattle.sheet.specs.Flaws.{settleBy, fieldsFlaw, pagesFlaw, digitsFlaw, clashAt};
 use crate::found::Raw;
 use fields::dose::is_zero;
 use fields::lookup::count_of;
 use fields::lookup::first_of;
-use fields::lookup::leasts;
-use fields::lookup::mosts;
-use fields::lookup::musts;
 use fields::lookup::pair_one;
 use fields::lookup::pair_other;
 use fields::lookup::pairs_of;
-use fields::lookup::rules;
-use fields::lookup::tildes;
-use fields::rules::keeps_in;
+use fields::lookup::rule_in;
+use fields::rules::value_flaw;
 use markup::values::decode;
 use room::spells;
 
@@ -95,48 +91,17 @@ fn first_byte(page: &[u8], raw: Raw, scratch: &mut [u8]) -> u8
 }
 
 // The fault of the field at a place of the table: 7 if its value breaks it, 8 if it must be present and is not, 9 if none.
-fn field_flaw(
-    page: &[u8],
-    raw: Raw,
-    id: usize,
-    rules: &[u8; 52],
-    leasts: &[u16; 52],
-    mosts: &[u16; 52],
-    tildes: &[u8; 52],
-    musts: &[u8; 52],
-    scratch: &mut [u8],
-) -> u8
-    requires { ⌜ (length (now page) ≤ length (now scratch)) × (id < 52) × (now rules ≡ ruleColumn) × (now leasts ≡ leastColumn) × (now mosts ≡ mostColumn)
-        × (now tildes ≡ tildeColumn) × (now musts ≡ mustColumn) ⌝ }
+fn field_flaw(page: &[u8], raw: Raw, id: usize, limits: &[u64; 52], scratch: &mut [u8]) -> u8
+    requires { ⌜ (length (now page) ≤ length (now scratch)) × (id < 52) × (now limits ≡ limitColumn) ⌝ }
     ensures { λ r. ⌜ r ≡ fieldFlaw (fieldAt id) (settle (fieldAt id) (value (shownBy (now (page .entry)) raw))) ⌝ }
 {
-    let n = settled_len(page, raw, rules[id], scratch);
-    if n == 0 {
-        if musts[id] == 1 {
-            return 8;
-        }
-        return 9;
-    }
-    if keeps_in(rules, leasts, mosts, tildes, id, &scratch[..n]) {
-        return 9;
-    }
-    7
+    let n = settled_len(page, raw, rule_in(limits, id), scratch);
+    value_flaw(limits, id, scratch, 0, n)
 }
 
 // The least fault of an element's fields: 7 if some value breaks its field, else 8 if one that must be present is missing, else 9.
-fn fields_flaw(
-    page: &[u8],
-    kind: u8,
-    raws: [Raw; 16],
-    rules: &[u8; 52],
-    leasts: &[u16; 52],
-    mosts: &[u16; 52],
-    tildes: &[u8; 52],
-    musts: &[u8; 52],
-    scratch: &mut [u8],
-) -> u8
-    requires { ⌜ (length (now page) ≤ length (now scratch)) × (kind < 10) × (now rules ≡ ruleColumn) × (now leasts ≡ leastColumn) × (now mosts ≡ mostColumn)
-        × (now tildes ≡ tildeColumn) × (now musts ≡ mustColumn) ⌝ }
+fn fields_flaw(page: &[u8], kind: u8, raws: [Raw; 16], limits: &[u64; 52], scratch: &mut [u8]) -> u8
+    requires { ⌜ (length (now page) ≤ length (now scratch)) × (kind < 10) × (now limits ≡ limitColumn) ⌝ }
     ensures { λ r. ⌜ r ≡ fieldsFlaw 9 (fieldsOf (kindAt kind)) (told (now (page .entry)) (kindAt kind) raws) ⌝ }
 {
     let first = first_of(kind);
@@ -144,17 +109,7 @@ fn fields_flaw(
     let mut worst = 9;
     let mut j = 0;
     while j < count {
-        let flaw = field_flaw(
-            page,
-            raws[j],
-            first + j,
-            rules,
-            leasts,
-            mosts,
-            tildes,
-            musts,
-            scratch,
-        );
+        let flaw = field_flaw(page, raws[j], first + j, limits, scratch);
         let next = j + 1;
         if flaw == 7 {
             return 7;
@@ -238,36 +193,16 @@ fn clashes(kind: u8, raws: [Raw; 16]) -> bool
     false
 }
 
-// The least of 6, 7 and 8 that a tag's own values give, 9 if none, with the columns of the table handed down by a caller that copies them once.
-pub fn flaw_in(
-    page: &[u8],
-    kind: u8,
-    raws: [Raw; 16],
-    rules: &[u8; 52],
-    leasts: &[u16; 52],
-    mosts: &[u16; 52],
-    tildes: &[u8; 52],
-    musts: &[u8; 52],
-    scratch: &mut [u8],
-) -> u8
-    requires { ⌜ (length (now page) ≤ length (now scratch)) × (kind < 10) × (now rules ≡ ruleColumn) × (now leasts ≡ leastColumn) × (now mosts ≡ mostColumn)
-        × (now tildes ≡ tildeColumn) × (now musts ≡ mustColumn) ⌝ }
+// The least of 6, 7 and 8 that a tag's own values give, 9 if none, with the limits of the table handed down by a caller that copies them once. `scratch` is room
+// for one value; what it then holds is of no meaning.
+pub fn flaw_of(page: &[u8], kind: u8, raws: [Raw; 16], limits: &[u64; 52], scratch: &mut [u8]) -> u8
+    requires { ⌜ (length (now page) ≤ length (now scratch)) × (kind < 10) × (now limits ≡ limitColumn) ⌝ }
     ensures { λ r. ⌜ ((l : List Attr) → Tells (now (page .entry)) (kindAt kind) raws l → r ≡ flaw (kindAt kind) (names l) (slotsOf (fieldsOf (kindAt kind)) l)) ⌝ }
 {
     if edition_differs(page, kind, raws, scratch) {
         return 6;
     }
-    let own = fields_flaw(
-        page,
-        kind,
-        raws,
-        rules,
-        leasts,
-        mosts,
-        tildes,
-        musts,
-        scratch,
-    );
+    let own = fields_flaw(page, kind, raws, limits, scratch);
     if own == 7 {
         return 7;
     }
@@ -282,29 +217,6 @@ pub fn flaw_in(
         return 8;
     }
     9
-}
-
-// The least of 6, 7 and 8 that a tag's own values give, 9 if none. `scratch` is room for one value; what it then holds is of no meaning.
-pub fn flaw_of(page: &[u8], kind: u8, raws: [Raw; 16], scratch: &mut [u8]) -> u8
-    requires { ⌜ (length (now page) ≤ 1400) × (length (now page) ≤ length (now scratch)) × (kind < 10) ⌝ }
-    ensures { λ r. ⌜ ((l : List Attr) → Tells (now (page .entry)) (kindAt kind) raws l → r ≡ flaw (kindAt kind) (names l) (slotsOf (fieldsOf (kindAt kind)) l)) ⌝ }
-{
-    let rules = rules();
-    let leasts = leasts();
-    let mosts = mosts();
-    let tildes = tildes();
-    let musts = musts();
-    flaw_in(
-        page,
-        kind,
-        raws,
-        &rules,
-        &leasts,
-        &mosts,
-        &tildes,
-        &musts,
-        scratch,
-    )
 }
 
 // Whether an element with these values is an M that has neither p nor a.

@@ -17,6 +17,7 @@ use crate::state::enter;
 use crate::state::finish;
 use crate::state::kind_under;
 use fields::lookup::keys;
+use fields::lookup::limits;
 use marks::first_refused;
 use markup::scan::Extent;
 use markup::scan::scan;
@@ -52,6 +53,7 @@ pub fn faults_of(page: &[u8], scratch: &mut [u8]) -> Verdict
     ensures { λ r. ⌜ r ≡ verdictBy (foldPage (tagsAt (now (page .entry)) 0)) ⌝ }
 {
     let keys = keys();
+    let limits = limits();
     let mut st = before();
     let mut at = 0;
     loop {
@@ -81,7 +83,7 @@ pub fn faults_of(page: &[u8], scratch: &mut [u8]) -> Verdict
                     };
                 }
                 let raws = found.raws;
-                let number = flaw_of(page, kind, raws, scratch);
+                let number = flaw_of(page, kind, raws, &limits, scratch);
                 let needs = needs_w(page, kind, raws, scratch);
                 st = enter(st, kind, place, number, needs, found.shut);
                 at = i + 1;

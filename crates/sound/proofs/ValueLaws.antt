@@ -7,7 +7,7 @@ use Prim.Native.Nat.{ℕ, zero, suc, _+_, _-_, _/_, _%_, _≤_, _<_}
 use native.Mathlib.Omega.{arith}
 use lib.Dec.{eqb, ltb}
 use lib.ListN.{length, take, drop, getD}
-use lib.Seq.{take-at}
+use lib.Seq.{slice, take-at}
 use borrow.Author.Tests.{eq-eqb, ne-eqb, le-leb, lt-leb}
 use Rattle.paper.specs.Lists.{if, same, isEmpty}
 use Rattle.paper.specs.Fields.{Field}
@@ -17,11 +17,9 @@ use Rattle.paper.specs.Layout.{Span}
 use Rattle.paper.specs.Writing.{digitsOf, decimal, goodSlot}
 use Rattle.paper.proofs.Small.{no}
 use Rattle.paper.proofs.Rooms.{digits-most}
-use Rattle.fields.specs.Places.{ruleAt, fieldAt}
-use Rattle.fields.specs.Columns.{ruleColumn, mustColumn}
-use Rattle.fields.proofs.ColumnLaws.{rule-at, must-at, bit-one}
-use Rattle.fields.proofs.RuleLaws.{rule-back}
-use Rattle.sound.specs.Judged.{fineSpan}
+use Rattle.fields.specs.Places.{fieldAt, fieldFlaw}
+use Rattle.fields.proofs.RuleLaws.{part-is, part-some}
+use Rattle.sound.specs.Judged.{goodValue, fineSpan}
 
 -- ---- trailing spaces
 
@@ -53,41 +51,43 @@ last-blank (c ∷ s) h =
     let e : suc (length s) - 1 ≡ length s = omega arith in
     ap (λ (n : ℕ). eqb (getD (c ∷ s) n 0) 32) e ∙ sym (ap not (uncut c s) ∙ not-twice (eqb (getD (c ∷ s) (length s) 0) 32))
 
+-- a value that ends with one is not as reading gives it
+pub blank-last : (a b : Bool) → not a ≡ true → false ≡ a && b
+blank-last true b e = no (sym e)
+blank-last false b e = refl
+
+-- any other is, if nothing else stands against it
+pub unblank : (a b : Bool) → not a ≡ false → b ≡ a && b
+unblank true b e = refl
+unblank false b e = no e
+
 -- ---- a good value
 
--- a present value is good by three tests
-good-by : (f : Field) (v : List ℕ) → 0 < length v → goodSlot f v ≡ (keeps f v && (same (cut v) v && not (isZero (f .rule) v)))
-good-by f [] h = absurd (omega arith)
-good-by f (c ∷ v) h = refl
+-- what is wrong with a value by its field decides, where it is absent
+pub value-absent : (f : Field) (v : List ℕ) → [] ≡ v → eqb (fieldFlaw f v) 9 ≡ goodValue f v
+unfolding fieldFlaw
+value-absent f v e = rw (← e) (go (f .must))
+  where
+    go : (m : Bool) → eqb (if (m && true) 8 9) 9 ≡ not (m && true)
+    go true = refl
+    go false = refl
 
-module _ (f : Field) (v : List ℕ) (h : 0 < length v) where
-  -- it breaks its field
-  pub good-broken : keeps f v ≡ false → false ≡ goodSlot f v
-  good-broken e = sym (good-by f v h ∙ rw e)
+-- and where it is there, with how reading would give it
+pub value-present : (f : Field) (v : List ℕ) → isEmpty v ≡ false → (eqb (fieldFlaw f v) 9 && (same (cut v) v && not (isZero (f .rule) v))) ≡ goodValue f v
+unfolding fieldFlaw
+value-present f v e = rw e (go (keeps f v) (f .must) (same (cut v) v && not (isZero (f .rule) v)))
+  where
+    go : (k m r : Bool) → (eqb (if (not k) 7 (if (m && false) 8 9)) 9 && r) ≡ ((k && r) && not (m && false))
+    go true true true = refl
+    go true true false = refl
+    go true false true = refl
+    go true false false = refl
+    go false m r = refl
 
-  -- it ends with a space
-  pub good-blank : keeps f v ≡ true → not (same (cut v) v) ≡ true → false ≡ goodSlot f v
-  good-blank e b = sym (good-by f v h ∙ rw e (go (same (cut v) v) b))
-    where
-      go : (a : Bool) → not a ≡ true → a && not (isZero (f .rule) v) ≡ false
-      go true q = no (sym q)
-      go false q = refl
-
-  -- it ends with none: by whether it is a dose of 0
-  pub good-zero : keeps f v ≡ true → not (same (cut v) v) ≡ false → (z : Bool) → isZero (f .rule) v ≡ z → not z ≡ goodSlot f v
-  good-zero e b z q = sym (good-by f v h ∙ rw (e, q) (go (same (cut v) v) b))
-    where
-      go : (a : Bool) → not a ≡ false → a && not z ≡ not z
-      go true g = refl
-      go false g = no g
-
--- the rule in the column is the field's
-pub rule-in : (l : List ℕ) (id : ℕ) → l ≡ ruleColumn → ruleAt (getD l id 0) ≡ fieldAt id .rule
-rule-in l id e = ap (λ (s : List ℕ). ruleAt (getD s id 0)) e ∙ ap ruleAt (rule-at id) ∙ rule-back (fieldAt id .rule)
-
--- the mark * in the column is the field's
-pub must-in : (l : List ℕ) (id : ℕ) → l ≡ mustColumn → eqb (getD l id 0) 1 ≡ fieldAt id .must
-must-in l id e = ap (λ (s : List ℕ). eqb (getD s id 0) 1) e ∙ ap (λ (n : ℕ). eqb n 1) (must-at id) ∙ bit-one (fieldAt id .must)
+-- a value with which something is wrong is not good
+pub flawed : (f : Field) (v : List ℕ) → eqb (fieldFlaw f v) 9 ≡ false → false ≡ goodValue f v
+flawed f [] e = sym e ∙ value-absent f [] refl
+flawed f (c ∷ v) e = sym (sym (value-present f (c ∷ v) refl) ∙ rw e)
 
 -- ---- the span of a value
 
@@ -96,13 +96,9 @@ module _ (t : List ℕ) (f : Field) (a n : ℕ) where
   span = record { at = a; len = n }
 
   -- an absent one
-  pub fine-absent : n ≡ 0 → (m : Bool) → m ≡ f .must → not m ≡ fineSpan t f span
+  pub fine-absent : n ≡ 0 → (b : Bool) → b ≡ goodValue f (slice 0 0 t) → b ≡ fineSpan t f span
   unfolding fineSpan
-  fine-absent e m q = rw (e, q) (go (f .must))
-    where
-      go : (b : Bool) → not b ≡ not (b && true)
-      go true = refl
-      go false = refl
+  fine-absent e b q = q ∙ rw e
 
   -- one that points outside the text
   pub fine-outside : (n ≡ 0 → ⊥) → length t < a + n → false ≡ fineSpan t f span
@@ -110,18 +106,14 @@ module _ (t : List ℕ) (f : Field) (a n : ℕ) where
   fine-outside z h = rw (ne-eqb n 0 z, lt-leb (a + n) (length t) h)
 
   -- one that lies within it
-  pub fine-inside : (n ≡ 0 → ⊥) → a + n ≤ length t → (b : Bool) → b ≡ goodSlot f (take n (drop a t)) → b ≡ fineSpan t f span
+  pub fine-inside : (n ≡ 0 → ⊥) → a + n ≤ length t → (x y : ℕ) → x ≡ a → y ≡ a + n → (b : Bool) → b ≡ goodValue f (slice x y t) → b ≡ fineSpan t f span
   unfolding fineSpan
-  fine-inside z h b q = q ∙ rw (ne-eqb n 0 z, le-leb (a + n) (length t) h) (go (goodSlot f (take n (drop a t))) (f .must))
-    where
-      go : (x m : Bool) → x ≡ x && not (m && false)
-      go true true = refl
-      go true false = refl
-      go false m = refl
-
--- the part of the text from one place up to another
-pub good-part : (f : Field) (t : List ℕ) (a n x y : ℕ) → x ≡ a → y ≡ n → goodSlot f (take (x + y - x) (drop x t)) ≡ goodSlot f (take n (drop a t))
-good-part f t a n x y e g = let z : x + y - x ≡ n = omega arith in ap (λ (m : ℕ). goodSlot f (take m (drop x t))) z ∙ ap (λ (m : ℕ). goodSlot f (take n (drop m t))) e
+  fine-inside z h x y i j b q =
+      let m : y - x ≡ n = omega arith in
+      let l : isEmpty (slice x y t) ≡ false = part-some t x y (omega arith) (omega arith) (λ k. z (omega arith)) in
+      let v : slice x y t ≡ take n (drop a t) = sym (part-is t x y) ∙ ap (λ (k : ℕ). take k (drop x t)) m ∙ ap (λ (k : ℕ). take n (drop k t)) i in
+      q ∙ ap (λ (k : Bool). goodSlot f (slice x y t) && not (f .must && k)) l ∙ ap (λ (k : List ℕ). goodSlot f k && not (f .must && false)) v
+      ∙ sym (rw (ne-eqb n 0 z, le-leb (a + n) (length t) h))
 
 -- ---- the digits of a package number
 
@@ -140,14 +132,15 @@ decimal-empty (suc n) = some (ltb (suc n) 10) (digitsOf 8 (suc n / 10)) ∙ sym 
     some false [] = refl
     some false (d ∷ front) = refl
 
--- a number that is not 0 has some
-pub decimal-some : (n : ℕ) → (n ≡ 0 → ⊥) → 0 < length (decimal n)
-decimal-some n z = some (decimal n) (decimal-empty n ∙ ne-eqb n 0 z)
+-- the package number has no mark *
+pub no-mark : (v : List ℕ) → goodValue (fieldAt 33) v ≡ goodSlot (fieldAt 33) v
+unfolding fieldAt
+no-mark v = go (goodSlot (fieldAt 33) v)
   where
-    some : (v : List ℕ) → isEmpty v ≡ false → 0 < length v
-    some [] e = no e
-    some (c ∷ v) e = omega arith
+    go : (b : Bool) → b && true ≡ b
+    go true = refl
+    go false = refl
 
 -- they are what is spelled into a room from its beginning on
-pub spelled : (n w : ℕ) (room room′ : List ℕ) → w ≡ 0 + length (decimal n) → room′ ≡ take 0 room ++ (decimal n ++ drop (0 + length (decimal n)) room) → take w room′ ≡ decimal n
+pub spelled : (n w : ℕ) (room room′ : List ℕ) → w ≡ 0 + length (decimal n) → room′ ≡ take 0 room ++ (decimal n ++ drop (0 + length (decimal n)) room) → slice 0 w room′ ≡ decimal n
 spelled n w room room′ e f = rw f (take-at (decimal n) (drop (0 + length (decimal n)) room) w (omega arith))

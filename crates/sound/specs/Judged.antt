@@ -6,7 +6,7 @@ use mathlib.Core.List.{List, [], _∷_}
 use Prim.Native.Nat.{ℕ, zero, suc, _+_, _*_, _-_}
 use lib.Dec.{eqb}
 use lib.ListN.{length, getD}
-use Rattle.paper.specs.Lists.{if, every}
+use Rattle.paper.specs.Lists.{if, every, isEmpty}
 use Rattle.paper.specs.Fields.{Kind, P, A, O, M, W, Field}
 use Rattle.paper.specs.Layout.{Span, shown, shownAll}
 use Rattle.paper.specs.Writing.{decimal, goodSlot, goodElement}
@@ -14,6 +14,10 @@ use Rattle.fields.specs.Places.{fieldAt, countOf, onesOf, othersOf}
 use Rattle.plan.specs.Numbers.{spanIn, spansIn, absent, within}
 
 -- ---- values and elements
+
+-- a value is good for its field, and is there if the field is marked *
+abbrev pub goodValue : Field → List ℕ → Bool
+goodValue f v = goodSlot f v && not (f .must && isEmpty v)
 
 -- the span lies within the text and shows a good value of its field, and is present if the field is marked *
 unfoldable pub fineSpan : List ℕ → Field → Span → Bool

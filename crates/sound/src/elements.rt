@@ -3,7 +3,7 @@ ghost use mathlib.Core.Path.{_≡_};
 ghost use Prim.Native.Nat.{_+_, _*_, _≤_, _<_};
 ghost use lib.ListN.{length};
 ghost use Rattle.fields.specs.Places.{kindAt, countOf};
-ghost use Rattle.fields.specs.Columns.{ruleColumn, leastColumn, mostColumn, tildeColumn, mustColumn};
+ghost use Rattle.fields.specs.Columns.{limitColumn};
 ghost use Rattle.plan.specs.Numbers.{spansIn};
 ghost use Rattle.sound.specs.Judged.{fineFrom, clashAt, fineElement, absentFrom};
 use crate::values::fine_value;
@@ -20,14 +20,9 @@ pub fn fine_fields(
     first: usize,
     count: usize,
     text: &[u8],
-    rules: &[u8; 52],
-    leasts: &[u16; 52],
-    mosts: &[u16; 52],
-    tildes: &[u8; 52],
-    musts: &[u8; 52],
+    limits: &[u64; 52],
 ) -> bool
-    requires { ⌜ (2 + 2 * (j + count) ≤ length (now numbers)) × (first + count ≤ 52) × (now rules ≡ ruleColumn) × (now leasts ≡ leastColumn) × (now mosts ≡ mostColumn)
-        × (now tildes ≡ tildeColumn) × (now musts ≡ mustColumn) ⌝ }
+    requires { ⌜ (2 + 2 * (j + count) ≤ length (now numbers)) × (first + count ≤ 52) × (now limits ≡ limitColumn) ⌝ }
     ensures { λ r. ⌜ r ≡ fineFrom (now (text .entry)) first count j (now (numbers .entry)) ⌝ }
 {
     let mut i = 0;
@@ -38,11 +33,7 @@ pub fn fine_fields(
             numbers[2 + 2 * k],
             numbers[3 + 2 * k],
             first + i,
-            rules,
-            leasts,
-            mosts,
-            tildes,
-            musts,
+            limits,
         ) {
             return false;
         }
@@ -89,19 +80,8 @@ pub fn clashes(numbers: &[u32], k: usize, element: u8) -> bool
 }
 
 // Whether the spans of an element, from span j on, lie within the text and show a good element.
-pub fn fine_element(
-    numbers: &[u32],
-    j: usize,
-    element: u8,
-    text: &[u8],
-    rules: &[u8; 52],
-    leasts: &[u16; 52],
-    mosts: &[u16; 52],
-    tildes: &[u8; 52],
-    musts: &[u8; 52],
-) -> bool
-    requires { ⌜ (element < 10) × (2 + 2 * (j + countOf (kindAt element)) ≤ length (now numbers)) × (now rules ≡ ruleColumn) × (now leasts ≡ leastColumn)
-        × (now mosts ≡ mostColumn) × (now tildes ≡ tildeColumn) × (now musts ≡ mustColumn) ⌝ }
+pub fn fine_element(numbers: &[u32], j: usize, element: u8, text: &[u8], limits: &[u64; 52]) -> bool
+    requires { ⌜ (element < 10) × (2 + 2 * (j + countOf (kindAt element)) ≤ length (now numbers)) × (now limits ≡ limitColumn) ⌝ }
     ensures { λ r. ⌜ r ≡ fineElement (now (text .entry)) (kindAt element) (spansIn (countOf (kindAt element)) j (now (numbers .entry))) ⌝ }
 {
     let first = first_of(element);
@@ -109,16 +89,5 @@ pub fn fine_element(
     if clashes(numbers, 2 + 2 * j, element) {
         return false;
     }
-    fine_fields(
-        numbers,
-        j,
-        first,
-        count,
-        text,
-        rules,
-        leasts,
-        mosts,
-        tildes,
-        musts,
-    )
+    fine_fields(numbers, j, first, count, text, limits)
 }

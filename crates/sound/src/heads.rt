@@ -2,7 +2,7 @@
 ghost use mathlib.Core.Path.{_≡_};
 ghost use Prim.Native.Nat.{_≤_};
 ghost use lib.ListN.{length};
-ghost use Rattle.fields.specs.Columns.{ruleColumn, leastColumn, mostColumn, tildeColumn, mustColumn};
+ghost use Rattle.fields.specs.Columns.{limitColumn};
 ghost use Rattle.sound.specs.Judged.{fineHead};
 use crate::elements::fine_element;
 use crate::elements::fine_fields;
@@ -18,71 +18,21 @@ const MEASURES: u8 = 4;
 const IDENT: usize = 2;
 
 // Whether l is present, and U, l, P, A and O are fine.
-pub fn fine_head(
-    numbers: &[u32],
-    text: &[u8],
-    rules: &[u8; 52],
-    leasts: &[u16; 52],
-    mosts: &[u16; 52],
-    tildes: &[u8; 52],
-    musts: &[u8; 52],
-) -> bool
-    requires { ⌜ (56 ≤ length (now numbers)) × (now rules ≡ ruleColumn) × (now leasts ≡ leastColumn) × (now mosts ≡ mostColumn) × (now tildes ≡ tildeColumn)
-        × (now musts ≡ mustColumn) ⌝ }
+pub fn fine_head(numbers: &[u32], text: &[u8], limits: &[u64; 52]) -> bool
+    requires { ⌜ (56 ≤ length (now numbers)) × (now limits ≡ limitColumn) ⌝ }
     ensures { λ r. ⌜ r ≡ fineHead (now (text .entry)) (now (numbers .entry)) ⌝ }
 {
     if numbers[5] == 0 {
         return false;
     }
-    if !fine_fields(
-        numbers,
-        0,
-        IDENT,
-        2,
-        text,
-        rules,
-        leasts,
-        mosts,
-        tildes,
-        musts,
-    ) {
+    if !fine_fields(numbers, 0, IDENT, 2, text, limits) {
         return false;
     }
-    if !fine_element(
-        numbers,
-        2,
-        PERSON,
-        text,
-        rules,
-        leasts,
-        mosts,
-        tildes,
-        musts,
-    ) {
+    if !fine_element(numbers, 2, PERSON, text, limits) {
         return false;
     }
-    if !fine_element(
-        numbers,
-        10,
-        AUTHOR,
-        text,
-        rules,
-        leasts,
-        mosts,
-        tildes,
-        musts,
-    ) {
+    if !fine_element(numbers, 10, AUTHOR, text, limits) {
         return false;
     }
-    fine_element(
-        numbers,
-        20,
-        MEASURES,
-        text,
-        rules,
-        leasts,
-        mosts,
-        tildes,
-        musts,
-    )
+    fine_element(numbers, 20, MEASURES, text, limits)
 }

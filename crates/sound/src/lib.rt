@@ -13,11 +13,7 @@ pub mod values;
 
 use crate::heads::fine_head;
 use crate::records::record_sound;
-use fields::lookup::leasts;
-use fields::lookup::mosts;
-use fields::lookup::musts;
-use fields::lookup::rules;
-use fields::lookup::tildes;
+use fields::lookup::limits;
 use plan::Plan;
 use plan::head_numbers;
 
@@ -30,12 +26,8 @@ pub fn head_sound(plan: Plan, text: &[u8]) -> bool
     }
     let head = plan.head;
     let numbers = head_numbers(head);
-    let rules = rules();
-    let leasts = leasts();
-    let mosts = mosts();
-    let tildes = tildes();
-    let musts = musts();
-    fine_head(&numbers, text, &rules, &leasts, &mosts, &tildes, &musts)
+    let limits = limits();
+    fine_head(&numbers, text, &limits)
 }
 
 // The first of the first n rows that is bad, counted from 1; 0 if none is.
@@ -43,24 +35,12 @@ pub fn first_bad(rows: &[u32], n: usize, text: &[u8]) -> usize
     requires { ⌜ n * 48 ≤ length (now rows) ⌝ }
     ensures { λ r. ⌜ r ≡ firstBadIn 1 (now (text .entry)) n (now (rows .entry)) ⌝ }
 {
-    let rules = rules();
-    let leasts = leasts();
-    let mosts = mosts();
-    let tildes = tildes();
-    let musts = musts();
+    let limits = limits();
     let mut i = 0;
     while i < n {
         let at = i * Plan::STRIDE;
         let end = at + Plan::STRIDE;
-        if !record_sound(
-            &rows[at..end],
-            text,
-            &rules,
-            &leasts,
-            &mosts,
-            &tildes,
-            &musts,
-        ) {
+        if !record_sound(&rows[at..end], text, &limits) {
             return i + 1;
         }
         i += 1;

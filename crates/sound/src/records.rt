@@ -3,7 +3,7 @@ ghost use mathlib.Core.Path.{_≡_};
 ghost use Prim.Native.Nat.{_+_, _*_, _≤_, _<_};
 ghost use lib.ListN.{length};
 ghost use Rattle.fields.specs.Places.{kindAt, countOf};
-ghost use Rattle.fields.specs.Columns.{ruleColumn, leastColumn, mostColumn, tildeColumn, mustColumn};
+ghost use Rattle.fields.specs.Columns.{limitColumn};
 ghost use Rattle.sound.specs.Judged.{finePlain, lastW, fineWs, lacking, fineMedication};
 ghost use Rattle.sound.specs.Sound.{recordSound};
 use crate::elements::all_absent;
@@ -30,34 +30,14 @@ const NOTE: u8 = 9;
 const NAME: usize = 34;
 
 // Whether a record of an element other than M is fine: its own spans are, and nothing stands where it has none.
-fn fine_plain(
-    numbers: &[u32],
-    element: u8,
-    text: &[u8],
-    rules: &[u8; 52],
-    leasts: &[u16; 52],
-    mosts: &[u16; 52],
-    tildes: &[u8; 52],
-    musts: &[u8; 52],
-) -> bool
-    requires { ⌜ (element < 10) × (countOf (kindAt element) ≤ 19) × (48 ≤ length (now numbers)) × (now rules ≡ ruleColumn) × (now leasts ≡ leastColumn)
-        × (now mosts ≡ mostColumn) × (now tildes ≡ tildeColumn) × (now musts ≡ mustColumn) ⌝ }
+fn fine_plain(numbers: &[u32], element: u8, text: &[u8], limits: &[u64; 52]) -> bool
+    requires { ⌜ (element < 10) × (countOf (kindAt element) ≤ 19) × (48 ≤ length (now numbers)) × (now limits ≡ limitColumn) ⌝ }
     ensures { λ r. ⌜ r ≡ finePlain (now (text .entry)) (kindAt element) (now (numbers .entry)) ⌝ }
 {
     if numbers[1] != 0 {
         return false;
     }
-    if !fine_element(
-        numbers,
-        0,
-        element,
-        text,
-        rules,
-        leasts,
-        mosts,
-        tildes,
-        musts,
-    ) {
+    if !fine_element(numbers, 0, element, text, limits) {
         return false;
     }
     let own = count_of(element);
@@ -82,33 +62,13 @@ fn last_w(numbers: &[u32]) -> usize
 }
 
 // Whether the first n W of a medication's record are fine; one that is absent lacks its w.
-fn fine_ws(
-    numbers: &[u32],
-    n: usize,
-    text: &[u8],
-    rules: &[u8; 52],
-    leasts: &[u16; 52],
-    mosts: &[u16; 52],
-    tildes: &[u8; 52],
-    musts: &[u8; 52],
-) -> bool
-    requires { ⌜ (n ≤ 3) × (48 ≤ length (now numbers)) × (now rules ≡ ruleColumn) × (now leasts ≡ leastColumn) × (now mosts ≡ mostColumn)
-        × (now tildes ≡ tildeColumn) × (now musts ≡ mustColumn) ⌝ }
+fn fine_ws(numbers: &[u32], n: usize, text: &[u8], limits: &[u64; 52]) -> bool
+    requires { ⌜ (n ≤ 3) × (48 ≤ length (now numbers)) × (now limits ≡ limitColumn) ⌝ }
     ensures { λ r. ⌜ r ≡ fineWs (now (text .entry)) n 13 (now (numbers .entry)) ⌝ }
 {
     let mut i = 0;
     while i < n {
-        if !fine_element(
-            numbers,
-            13 + 2 * i,
-            SUBSTANCE,
-            text,
-            rules,
-            leasts,
-            mosts,
-            tildes,
-            musts,
-        ) {
+        if !fine_element(numbers, 13 + 2 * i, SUBSTANCE, text, limits) {
             return false;
         }
         i += 1;
@@ -131,58 +91,29 @@ fn lacks(numbers: &[u32], n: usize) -> bool
 }
 
 // Whether a medication's record is fine.
-fn fine_medication(
-    numbers: &[u32],
-    text: &[u8],
-    rules: &[u8; 52],
-    leasts: &[u16; 52],
-    mosts: &[u16; 52],
-    tildes: &[u8; 52],
-    musts: &[u8; 52],
-) -> bool
-    requires { ⌜ (48 ≤ length (now numbers)) × (now rules ≡ ruleColumn) × (now leasts ≡ leastColumn) × (now mosts ≡ mostColumn) × (now tildes ≡ tildeColumn)
-        × (now musts ≡ mustColumn) ⌝ }
+fn fine_medication(numbers: &[u32], text: &[u8], limits: &[u64; 52]) -> bool
+    requires { ⌜ (48 ≤ length (now numbers)) × (now limits ≡ limitColumn) ⌝ }
     ensures { λ r. ⌜ r ≡ fineMedication (now (text .entry)) (now (numbers .entry)) ⌝ }
 {
     let n = last_w(numbers);
     if lacks(numbers, n) {
         return false;
     }
-    if !good_package(numbers[1], rules, leasts, mosts, tildes) {
+    if !good_package(numbers[1], limits) {
         return false;
     }
-    if !fine_fields(
-        numbers,
-        0,
-        NAME,
-        13,
-        text,
-        rules,
-        leasts,
-        mosts,
-        tildes,
-        musts,
-    ) {
+    if !fine_fields(numbers, 0, NAME, 13, text, limits) {
         return false;
     }
     if clashes(numbers, 0, MEDICATION) {
         return false;
     }
-    fine_ws(numbers, n, text, rules, leasts, mosts, tildes, musts)
+    fine_ws(numbers, n, text, limits)
 }
 
-// Whether a row's record is sound, with the columns of the table handed down by a caller that copies them once.
-pub fn record_sound(
-    numbers: &[u32],
-    text: &[u8],
-    rules: &[u8; 52],
-    leasts: &[u16; 52],
-    mosts: &[u16; 52],
-    tildes: &[u8; 52],
-    musts: &[u8; 52],
-) -> bool
-    requires { ⌜ (48 ≤ length (now numbers)) × (now rules ≡ ruleColumn) × (now leasts ≡ leastColumn) × (now mosts ≡ mostColumn) × (now tildes ≡ tildeColumn)
-        × (now musts ≡ mustColumn) ⌝ }
+// Whether a row's record is sound, with the limits of the table handed down by a caller that copies them once.
+pub fn record_sound(numbers: &[u32], text: &[u8], limits: &[u64; 52]) -> bool
+    requires { ⌜ (48 ≤ length (now numbers)) × (now limits ≡ limitColumn) ⌝ }
     ensures { λ r. ⌜ r ≡ recordSound (now (text .entry)) (now (numbers .entry)) ⌝ }
 {
     let kind = kind_of(numbers[0]);
@@ -191,11 +122,11 @@ pub fn record_sound(
             if all_absent(numbers, 0, 2) {
                 return false;
             }
-            fine_plain(numbers, HEADING, text, rules, leasts, mosts, tildes, musts)
+            fine_plain(numbers, HEADING, text, limits)
         }
-        Kind::Medication => fine_medication(numbers, text, rules, leasts, mosts, tildes, musts),
-        Kind::Recipe => fine_plain(numbers, RECIPE, text, rules, leasts, mosts, tildes, musts),
-        Kind::Note => fine_plain(numbers, NOTE, text, rules, leasts, mosts, tildes, musts),
+        Kind::Medication => fine_medication(numbers, text, limits),
+        Kind::Recipe => fine_plain(numbers, RECIPE, text, limits),
+        Kind::Note => fine_plain(numbers, NOTE, text, limits),
         Kind::Unknown => false,
     }
 }

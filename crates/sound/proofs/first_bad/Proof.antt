@@ -12,28 +12,16 @@ use Rattle.sound.proofs.first_bad.Statement.{statement}
 use Rattle.sound.proofs.first_bad.Tie as tie
 
 abbrev Inv-loop : tie.InvT-loop
-Inv-loop rows n text rules leasts mosts tildes musts i₀ i = (i ≤ n) × (firstBadIn 1 text n rows ≡ firstBadIn (1 + i) text (n - i) (drop (i * 48) rows))
+Inv-loop rows n text limits i₀ i = (i ≤ n) × (firstBadIn 1 text n rows ≡ firstBadIn (1 + i) text (n - i) (drop (i * 48) rows))
 
 abbrev μ-loop : tie.MeasureT-loop
-μ-loop rows n text rules leasts mosts tildes musts i₀ i = n - i
+μ-loop rows n text limits i₀ i = n - i
 
-rules-requires : tie.Need-rules-requires Inv-loop μ-loop
-rules-requires c κs = search needs
-
-leasts-requires : tie.Need-leasts-requires Inv-loop μ-loop
-leasts-requires c κs = search needs
-
-mosts-requires : tie.Need-mosts-requires Inv-loop μ-loop
-mosts-requires c κs = search needs
-
-tildes-requires : tie.Need-tildes-requires Inv-loop μ-loop
-tildes-requires c κs = search needs
-
-musts-requires : tie.Need-musts-requires Inv-loop μ-loop
-musts-requires c κs = search needs
+limits-requires : tie.Need-limits-requires Inv-loop μ-loop
+limits-requires c κs = search needs
 
 loop-holds : tie.Need-loop-holds Inv-loop μ-loop
-loop-holds c = let a = c .before .before .before .before .before .before .before .args in (omega arith, rows-start (a .text .now) (a .rows .now) (a .n))
+loop-holds c = let a = c .before .before .before .args in (omega arith, rows-start (a .text .now) (a .rows .now) (a .n))
 
 mul-at : tie.Need-mul-at Inv-loop μ-loop
 mul-at c = search needs
@@ -62,9 +50,9 @@ add-result c = search needs
 returns : tie.Need-returns Inv-loop μ-loop
 returns c =
     let R = c .before in
-    let I = R .before .before .before .before .before .before .before in
+    let I = R .before .before .before in
     let L = I .before in
-    let a = L .before .before .before .before .before .before .before .before .args in
+    let a = L .before .before .before .before .args in
     sym (L .loop .inv .1 ∙ bad-here (a .text .now) (a .rows .now) (a .n) (L .loop .i) (I .loop-test .taken) _ (R .record-sound .ensures ∙ part-sound (a .text .now) (a .rows .now) (L .loop .i)) (not-true _ (c .if1 .taken)))
 
 add-i : tie.Need-add-i Inv-loop μ-loop
@@ -76,15 +64,15 @@ loop-less c = search needs
 loop-again : tie.Need-loop-again Inv-loop μ-loop
 loop-again c =
     let R = c .before in
-    let I = R .before .before .before .before .before .before .before in
+    let I = R .before .before .before in
     let L = I .before in
-    let a = L .before .before .before .before .before .before .before .before .args in
+    let a = L .before .before .before .before .args in
     (search needs, L .loop .inv .1 ∙ sound-here (a .text .now) (a .rows .now) (a .n) (L .loop .i) (I .loop-test .taken) _ (R .record-sound .ensures ∙ part-sound (a .text .now) (a .rows .now) (L .loop .i)) (not-false _ (c .if1 .left)))
 
 returns-2 : tie.Need-returns-2 Inv-loop μ-loop
 returns-2 c =
     let L = c .before in
-    let a = L .before .before .before .before .before .before .before .before .args in
+    let a = L .before .before .before .before .args in
     sym (L .loop .inv .1 ∙ rows-done (a .text .now) (a .rows .now) (a .n) (L .loop .i) (c .loop-test .left))
 
 pub first-bad-spec : {M : Type 1} → statement M
@@ -93,11 +81,7 @@ first-bad-spec =
     (tie.spec
     Inv-loop
     μ-loop
-    rules-requires
-    leasts-requires
-    mosts-requires
-    tildes-requires
-    musts-requires
+    limits-requires
     loop-holds
     mul-at
     add-end

@@ -13,20 +13,8 @@ returns c = let a = c .before .before .before .args in patch-over (a .text .now)
 head-numbers-requires : tie.Need-head-numbers-requires
 head-numbers-requires c κs = search needs
 
-rules-requires : tie.Need-rules-requires
-rules-requires c κs = search needs
-
-leasts-requires : tie.Need-leasts-requires
-leasts-requires c κs = search needs
-
-mosts-requires : tie.Need-mosts-requires
-mosts-requires c κs = search needs
-
-tildes-requires : tie.Need-tildes-requires
-tildes-requires c κs = search needs
-
-musts-requires : tie.Need-musts-requires
-musts-requires c κs = search needs
+limits-requires : tie.Need-limits-requires
+limits-requires c κs = search needs
 
 slice-aggregate-fine-head : tie.Need-slice-aggregate-fine-head
 slice-aggregate-fine-head c = search needs
@@ -36,7 +24,7 @@ fine-head-requires c κs = search needs
 
 returns-2 : tie.Need-returns-2
 returns-2 c =
-    let H = c .before .before .before .before .before .before .before .before .before .before .before .before in
+    let H = c .before .before .before .before in
     let E = H .before .before in
     let a = E .before .before .before .args in
     c .fine-head .ensures ∙ patch-within (a .text .now) (a .plan) (H .head-numbers .result) (search needs) (omega (arith, E .if1 .left)) (H .head-numbers .ensures)
@@ -47,11 +35,7 @@ head-sound-spec =
     (tie.spec
     returns
     head-numbers-requires
-    rules-requires
-    leasts-requires
-    mosts-requires
-    tildes-requires
-    musts-requires
+    limits-requires
     slice-aggregate-fine-head
     fine-head-requires
     returns-2)

@@ -13,10 +13,10 @@ use Rattle.quick.proofs.pages.take_page.Statement.{statement}
 use Rattle.quick.proofs.pages.take_page.Tie as tie
 
 abbrev Inv-loop : tie.InvT-loop
-Inv-loop page keys letters odd rules leasts mosts tildes tape₀ first side₀ used st₀ i₀ f₀ m₀ tape side st i f m = On page tape₀ tape side₀ side used m first f i st
+Inv-loop page keys letters odd limits tape₀ first side₀ used st₀ i₀ f₀ m₀ tape side st i f m = On page tape₀ tape side₀ side used m first f i st
 
 abbrev μ-loop : tie.MeasureT-loop
-μ-loop page keys letters odd rules leasts mosts tildes tape₀ first side₀ used st₀ i₀ f₀ m₀ tape side st i f m = length page - i
+μ-loop page keys letters odd limits tape₀ first side₀ used st₀ i₀ f₀ m₀ tape side st i f m = length page - i
 
 -- the `<` of a tag
 less : (c : tie.Else3 Inv-loop μ-loop) → (c .before .before) .spaces-end .result < length ((c .before .before .before .before .before .before .before .before .before .before .before .before .before .before .before .before .before .before .before) .args .page .now)
@@ -30,10 +30,10 @@ take-root-requires : tie.Need-take-root-requires Inv-loop μ-loop
 take-root-requires c κs = let S = (c .before .before .before .before .before) in (S .pre .0, S .pre .1, S .pre .2, S .pre .3, S .pre .4, S .pre .5, S .pre .6, S .pre .7)
 
 same-length : tie.Need-same-length Inv-loop μ-loop
-same-length c = (c .before .before .before .before .before .before) .take-root .kept .1 .1 .1 .1 .1 .1 .1 .1 .0
+same-length c = (c .before .before .before .before .before .before) .take-root .kept .1 .1 .1 .1 .1 .0
 
 same-length-2 : tie.Need-same-length-2 Inv-loop μ-loop
-same-length-2 c = (c .before .before .before .before .before .before) .take-root .kept .1 .1 .1 .1 .1 .1 .1 .1 .1 .1 .0
+same-length-2 c = (c .before .before .before .before .before .before) .take-root .kept .1 .1 .1 .1 .1 .1 .1 .0
 
 returns : tie.Need-returns Inv-loop μ-loop
 returns c = λ n. absurd (n refl)
@@ -48,10 +48,10 @@ byte-or-requires : tie.Need-byte-or-requires Inv-loop μ-loop
 byte-or-requires c κs = search needs
 
 same-length-3 : tie.Need-same-length-3 Inv-loop μ-loop
-same-length-3 c = (c .before .before .before .before .before) .loop .inv .long .0 ∙ (c .before .before .before .before .before .before .before .before .before .before .before .before .before) .take-root .kept .1 .1 .1 .1 .1 .1 .1 .1 .0
+same-length-3 c = (c .before .before .before .before .before) .loop .inv .long .0 ∙ (c .before .before .before .before .before .before .before .before .before .before .before .before .before) .take-root .kept .1 .1 .1 .1 .1 .0
 
 same-length-4 : tie.Need-same-length-4 Inv-loop μ-loop
-same-length-4 c = (c .before .before .before .before .before) .loop .inv .long .1 ∙ (c .before .before .before .before .before .before .before .before .before .before .before .before .before) .take-root .kept .1 .1 .1 .1 .1 .1 .1 .1 .1 .1 .0
+same-length-4 c = (c .before .before .before .before .before) .loop .inv .long .1 ∙ (c .before .before .before .before .before .before .before .before .before .before .before .before .before) .take-root .kept .1 .1 .1 .1 .1 .1 .1 .0
 
 returns-2 : tie.Need-returns-2 Inv-loop μ-loop
 returns-2 c = λ n. absurd (n refl)
@@ -66,10 +66,10 @@ end-behind-requires : tie.Need-end-behind-requires Inv-loop μ-loop
 end-behind-requires c κs = (slash c, (c .before .before .before .before .before .before .before .before .before .before .before .before .before .before .before .before .before .before .before .before .before) .pre .1, (c .before .before .before .before .before) .if2 .taken)
 
 same-length-5 : tie.Need-same-length-5 Inv-loop μ-loop
-same-length-5 c = (c .before .before .before .before .before .before .before .before .before) .loop .inv .long .0 ∙ (c .before .before .before .before .before .before .before .before .before .before .before .before .before .before .before .before .before) .take-root .kept .1 .1 .1 .1 .1 .1 .1 .1 .0
+same-length-5 c = (c .before .before .before .before .before .before .before .before .before) .loop .inv .long .0 ∙ (c .before .before .before .before .before .before .before .before .before .before .before .before .before .before .before .before .before) .take-root .kept .1 .1 .1 .1 .1 .0
 
 same-length-6 : tie.Need-same-length-6 Inv-loop μ-loop
-same-length-6 c = (c .before .before .before .before .before .before .before .before .before) .loop .inv .long .1 ∙ (c .before .before .before .before .before .before .before .before .before .before .before .before .before .before .before .before .before) .take-root .kept .1 .1 .1 .1 .1 .1 .1 .1 .1 .1 .0
+same-length-6 c = (c .before .before .before .before .before .before .before .before .before) .loop .inv .long .1 ∙ (c .before .before .before .before .before .before .before .before .before .before .before .before .before .before .before .before .before) .take-root .kept .1 .1 .1 .1 .1 .1 .1 .0
 
 returns-3 : tie.Need-returns-3 Inv-loop μ-loop
 returns-3 c = λ n. absurd (n refl)
@@ -95,15 +95,15 @@ take-start-requires c κs =
     let S = (c .before .before .before .before .before .before .before .before .before .before .before .before .before .before .before .before .before .before .before .before .before .before .before) in
     let H = (c .before .before .before .before .before .before .before .before .before) .loop .inv in
     let R = (c .before .before .before .before .before .before) .spaces-end .ensures in
-    let lt = (c .before .before .before .before .before .before .before .before .before .before .before .before .before .before .before .before .before) .take-root .kept .1 .1 .1 .1 .1 .1 .1 .1 .0 in
-    let ls = (c .before .before .before .before .before .before .before .before .before .before .before .before .before .before .before .before .before) .take-root .kept .1 .1 .1 .1 .1 .1 .1 .1 .1 .1 .0 in
+    let lt = (c .before .before .before .before .before .before .before .before .before .before .before .before .before .before .before .before .before) .take-root .kept .1 .1 .1 .1 .1 .0 in
+    let ls = (c .before .before .before .before .before .before .before .before .before .before .before .before .before .before .before .before .before) .take-root .kept .1 .1 .1 .1 .1 .1 .1 .0 in
     (R .0, R .1, less ((c .before .before .before .before)), sym ((c .before .before .before .before .before) .byte-or .ensures) ∙ (c .before .before .before .before) .if3 .left, S .pre .1, H .sound, S .pre .2, S .pre .3, H .room .1, omega (arith, S .pre .5, H .long .0, lt), H .room .0, omega (arith, S .pre .7, H .long .1, ls))
 
 same-length-7 : tie.Need-same-length-7 Inv-loop μ-loop
-same-length-7 c = (c .before .before .before .before .before .before) .take-start .kept .1 .1 .1 .1 .1 .1 .1 .1 .1 .1 .1 .0 ∙ (c .before .before .before .before .before .before .before .before .before .before .before .before .before .before .before .before) .loop .inv .long .0 ∙ (c .before .before .before .before .before .before .before .before .before .before .before .before .before .before .before .before .before .before .before .before .before .before .before .before) .take-root .kept .1 .1 .1 .1 .1 .1 .1 .1 .0
+same-length-7 c = (c .before .before .before .before .before .before) .take-start .kept .1 .1 .1 .1 .1 .1 .1 .1 .0 ∙ (c .before .before .before .before .before .before .before .before .before .before .before .before .before .before .before .before) .loop .inv .long .0 ∙ (c .before .before .before .before .before .before .before .before .before .before .before .before .before .before .before .before .before .before .before .before .before .before .before .before) .take-root .kept .1 .1 .1 .1 .1 .0
 
 same-length-8 : tie.Need-same-length-8 Inv-loop μ-loop
-same-length-8 c = (c .before .before .before .before .before .before) .take-start .kept .1 .1 .1 .1 .1 .1 .1 .1 .1 .1 .1 .1 .1 .0 ∙ (c .before .before .before .before .before .before .before .before .before .before .before .before .before .before .before .before) .loop .inv .long .1 ∙ (c .before .before .before .before .before .before .before .before .before .before .before .before .before .before .before .before .before .before .before .before .before .before .before .before) .take-root .kept .1 .1 .1 .1 .1 .1 .1 .1 .1 .1 .0
+same-length-8 c = (c .before .before .before .before .before .before) .take-start .kept .1 .1 .1 .1 .1 .1 .1 .1 .1 .1 .0 ∙ (c .before .before .before .before .before .before .before .before .before .before .before .before .before .before .before .before) .loop .inv .long .1 ∙ (c .before .before .before .before .before .before .before .before .before .before .before .before .before .before .before .before .before .before .before .before .before .before .before .before) .take-root .kept .1 .1 .1 .1 .1 .1 .1 .0
 
 returns-4 : tie.Need-returns-4 Inv-loop μ-loop
 returns-4 c = λ n. absurd (n refl)
@@ -116,16 +116,16 @@ loop-less-2 c =
 loop-again-2 : tie.Need-loop-again-2 Inv-loop μ-loop
 loop-again-2 c =
     let X = (c .before .before .before .before .before .before .before) .take-start .ensures ((c .before) .if6 .left) in
-    on-step ((c .before .before .before .before .before .before .before .before .before .before .before .before .before .before .before .before .before) .loop .inv) X ((c .before .before .before .before .before .before .before) .take-start .kept .1 .1 .1 .1 .1 .1 .1 .1 .1 .1 .1 .0) ((c .before .before .before .before .before .before .before) .take-start .kept .1 .1 .1 .1 .1 .1 .1 .1 .1 .1 .1 .1 .1 .0)
+    on-step ((c .before .before .before .before .before .before .before .before .before .before .before .before .before .before .before .before .before) .loop .inv) X ((c .before .before .before .before .before .before .before) .take-start .kept .1 .1 .1 .1 .1 .1 .1 .1 .0) ((c .before .before .before .before .before .before .before) .take-start .kept .1 .1 .1 .1 .1 .1 .1 .1 .1 .1 .0)
 
 spaces-end-requires-2 : tie.Need-spaces-end-requires-2 Inv-loop μ-loop
 spaces-end-requires-2 c κs = search needs
 
 same-length-9 : tie.Need-same-length-9 Inv-loop μ-loop
-same-length-9 c = (c .before .before .before .before) .loop .inv .long .0 ∙ (c .before .before .before .before .before .before .before .before .before .before .before .before) .take-root .kept .1 .1 .1 .1 .1 .1 .1 .1 .0
+same-length-9 c = (c .before .before .before .before) .loop .inv .long .0 ∙ (c .before .before .before .before .before .before .before .before .before .before .before .before) .take-root .kept .1 .1 .1 .1 .1 .0
 
 same-length-10 : tie.Need-same-length-10 Inv-loop μ-loop
-same-length-10 c = (c .before .before .before .before) .loop .inv .long .1 ∙ (c .before .before .before .before .before .before .before .before .before .before .before .before) .take-root .kept .1 .1 .1 .1 .1 .1 .1 .1 .1 .1 .0
+same-length-10 c = (c .before .before .before .before) .loop .inv .long .1 ∙ (c .before .before .before .before .before .before .before .before .before .before .before .before) .take-root .kept .1 .1 .1 .1 .1 .1 .1 .0
 
 returns-5 : tie.Need-returns-5 Inv-loop μ-loop
 returns-5 c = λ n. absurd (n refl)
@@ -134,10 +134,10 @@ finish-requires : tie.Need-finish-requires Inv-loop μ-loop
 finish-requires c κs = search needs
 
 same-length-11 : tie.Need-same-length-11 Inv-loop μ-loop
-same-length-11 c = (c .before .before .before .before .before .before .before) .loop .inv .long .0 ∙ (c .before .before .before .before .before .before .before .before .before .before .before .before .before .before .before) .take-root .kept .1 .1 .1 .1 .1 .1 .1 .1 .0
+same-length-11 c = (c .before .before .before .before .before .before .before) .loop .inv .long .0 ∙ (c .before .before .before .before .before .before .before .before .before .before .before .before .before .before .before) .take-root .kept .1 .1 .1 .1 .1 .0
 
 same-length-12 : tie.Need-same-length-12 Inv-loop μ-loop
-same-length-12 c = (c .before .before .before .before .before .before .before) .loop .inv .long .1 ∙ (c .before .before .before .before .before .before .before .before .before .before .before .before .before .before .before) .take-root .kept .1 .1 .1 .1 .1 .1 .1 .1 .1 .1 .0
+same-length-12 c = (c .before .before .before .before .before .before .before) .loop .inv .long .1 ∙ (c .before .before .before .before .before .before .before .before .before .before .before .before .before .before .before) .take-root .kept .1 .1 .1 .1 .1 .1 .1 .0
 
 returns-6 : tie.Need-returns-6 Inv-loop μ-loop
 returns-6 c = λ n.
@@ -149,10 +149,10 @@ returns-6 c = λ n.
     )
 
 same-length-13 : tie.Need-same-length-13 Inv-loop μ-loop
-same-length-13 c = (c .before .before .before .before .before .before .before) .loop .inv .long .0 ∙ (c .before .before .before .before .before .before .before .before .before .before .before .before .before .before .before) .take-root .kept .1 .1 .1 .1 .1 .1 .1 .1 .0
+same-length-13 c = (c .before .before .before .before .before .before .before) .loop .inv .long .0 ∙ (c .before .before .before .before .before .before .before .before .before .before .before .before .before .before .before) .take-root .kept .1 .1 .1 .1 .1 .0
 
 same-length-14 : tie.Need-same-length-14 Inv-loop μ-loop
-same-length-14 c = (c .before .before .before .before .before .before .before) .loop .inv .long .1 ∙ (c .before .before .before .before .before .before .before .before .before .before .before .before .before .before .before) .take-root .kept .1 .1 .1 .1 .1 .1 .1 .1 .1 .1 .0
+same-length-14 c = (c .before .before .before .before .before .before .before) .loop .inv .long .1 ∙ (c .before .before .before .before .before .before .before .before .before .before .before .before .before .before .before) .take-root .kept .1 .1 .1 .1 .1 .1 .1 .0
 
 returns-7 : tie.Need-returns-7 Inv-loop μ-loop
 returns-7 c = λ n. absurd (n refl)

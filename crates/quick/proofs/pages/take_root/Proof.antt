@@ -53,10 +53,10 @@ no-step-requires-3 : tie.Need-no-step-requires-3
 no-step-requires-3 c κs = search needs
 
 same-length : tie.Need-same-length
-same-length c = (c .before .before .before .before .before .before) .take-tag .kept .1 .1 .1 .1 .1 .1 .1 .1 .1 .1 .1 .0
+same-length c = (c .before .before .before .before .before .before) .take-tag .kept .1 .1 .1 .1 .1 .1 .1 .1 .0
 
 same-length-2 : tie.Need-same-length-2
-same-length-2 c = (c .before .before .before .before .before .before) .take-tag .kept .1 .1 .1 .1 .1 .1 .1 .1 .1 .1 .1 .1 .1 .0
+same-length-2 c = (c .before .before .before .before .before .before) .take-tag .kept .1 .1 .1 .1 .1 .1 .1 .1 .1 .1 .0
 
 returns-3 : tie.Need-returns-3
 returns-3 c = λ n. absurd (n (c .no-step3 .ensures))
@@ -68,10 +68,10 @@ no-step-requires-4 : tie.Need-no-step-requires-4
 no-step-requires-4 c κs = search needs
 
 same-length-3 : tie.Need-same-length-3
-same-length-3 c = (c .before .before .before .before .before .before .before .before) .take-tag .kept .1 .1 .1 .1 .1 .1 .1 .1 .1 .1 .1 .0
+same-length-3 c = (c .before .before .before .before .before .before .before .before) .take-tag .kept .1 .1 .1 .1 .1 .1 .1 .1 .0
 
 same-length-4 : tie.Need-same-length-4
-same-length-4 c = (c .before .before .before .before .before .before .before .before) .take-tag .kept .1 .1 .1 .1 .1 .1 .1 .1 .1 .1 .1 .1 .1 .0
+same-length-4 c = (c .before .before .before .before .before .before .before .before) .take-tag .kept .1 .1 .1 .1 .1 .1 .1 .1 .1 .1 .0
 
 returns-4 : tie.Need-returns-4
 returns-4 c = λ n. absurd (n (c .no-step4 .ensures))
@@ -82,14 +82,14 @@ cast-enter c = omega (arith, less ((c .before .before .before .before .before .b
 enter-requires : tie.Need-enter-requires
 enter-requires c κs = (omega arith, (c .before .before .before .before .before .before .before .before .before .before .before .before .before .before .before) .before2 .ensures .1, ap (λ v. barred v (kindAt 1)) ((c .before .before .before .before .before .before .before .before .before .before .before .before .before .before .before) .before2 .ensures .0) ∙ root-free)
 
-add-t21 : tie.Need-add-t21
-add-t21 c = omega (arith, (c .before .before .before .before .before .before .before .before) .take-tag .ensures ((c .before .before .before) .if3 .left) .within .1, (c .before .before .before .before .before .before .before .before .before .before .before .before .before .before .before .before .before .before .before .before) .pre .1)
+add-t18 : tie.Need-add-t18
+add-t18 c = omega (arith, (c .before .before .before .before .before .before .before .before) .take-tag .ensures ((c .before .before .before) .if3 .left) .within .1, (c .before .before .before .before .before .before .before .before .before .before .before .before .before .before .before .before .before .before .before .before) .pre .1)
 
 same-length-5 : tie.Need-same-length-5
-same-length-5 c = (c .before .before .before .before .before .before .before .before) .take-tag .kept .1 .1 .1 .1 .1 .1 .1 .1 .1 .1 .1 .0
+same-length-5 c = (c .before .before .before .before .before .before .before .before) .take-tag .kept .1 .1 .1 .1 .1 .1 .1 .1 .0
 
 same-length-6 : tie.Need-same-length-6
-same-length-6 c = (c .before .before .before .before .before .before .before .before) .take-tag .kept .1 .1 .1 .1 .1 .1 .1 .1 .1 .1 .1 .1 .1 .0
+same-length-6 c = (c .before .before .before .before .before .before .before .before) .take-tag .kept .1 .1 .1 .1 .1 .1 .1 .1 .1 .1 .0
 
 returns-5 : tie.Need-returns-5
 returns-5 c = λ n.
@@ -98,7 +98,7 @@ returns-5 c = λ n.
     let T = (c .before .before .before .before .before .before .before .before) .take-tag .ensures ((c .before .before .before) .if3 .left) in
     let E = c .enter .ensures in
     on-first ((c .before .before .before .before .before .before .before .before .before .before .before .before .before .before .before) .spaces-end .ensures .0) (less ((c .before .before .before .before .before .before .before .before .before .before .before .before .before))) (sym b ∙ (c .before .before .before .before .before .before .before .before .before .before .before .before .before) .if1 .left) N T _ _ ((c .before) .if4 .left) ((c .before .before .before .before .before .before .before .before .before .before .before .before .before .before .before .before) .before2 .ensures .0) (E .0 (T .said) (T .fine) (T .needy)) (E .1)
-    ((c .before .before .before .before .before .before .before .before) .take-tag .kept .1 .1 .1 .1 .1 .1 .1 .1 .1 .1 .1 .0) ((c .before .before .before .before .before .before .before .before) .take-tag .kept .1 .1 .1 .1 .1 .1 .1 .1 .1 .1 .1 .1 .1 .0)
+    ((c .before .before .before .before .before .before .before .before) .take-tag .kept .1 .1 .1 .1 .1 .1 .1 .1 .0) ((c .before .before .before .before .before .before .before .before) .take-tag .kept .1 .1 .1 .1 .1 .1 .1 .1 .1 .1 .0)
 
 pub take-root-spec : {M : Type 1} → statement M
 take-root-spec =
@@ -125,7 +125,7 @@ take-root-spec =
     returns-4
     cast-enter
     enter-requires
-    add-t21
+    add-t18
     same-length-5
     same-length-6
     returns-5)

@@ -55,10 +55,10 @@ no-step-requires-4 : tie.Need-no-step-requires-4
 no-step-requires-4 c κs = search needs
 
 same-length : tie.Need-same-length
-same-length c = (c .before .before .before .before .before .before) .take-tag .kept .1 .1 .1 .1 .1 .1 .1 .1 .1 .1 .1 .0
+same-length c = (c .before .before .before .before .before .before) .take-tag .kept .1 .1 .1 .1 .1 .1 .1 .1 .0
 
 same-length-2 : tie.Need-same-length-2
-same-length-2 c = (c .before .before .before .before .before .before) .take-tag .kept .1 .1 .1 .1 .1 .1 .1 .1 .1 .1 .1 .1 .1 .0
+same-length-2 c = (c .before .before .before .before .before .before) .take-tag .kept .1 .1 .1 .1 .1 .1 .1 .1 .1 .1 .0
 
 returns-4 : tie.Need-returns-4
 returns-4 c = λ n. absurd (n (c .no-step4 .ensures))
@@ -72,14 +72,14 @@ cast-enter c = omega (arith, (c .before .before .before .before .before .before 
 enter-requires : tie.Need-enter-requires
 enter-requires c κs = ((c .before .before .before .before .before .before .before .before .before .before .before .before .before) .kid .ensures ((c .before .before .before .before .before .before .before .before .before .before .before .before) .if2 .left) .low, (c .before .before .before .before .before .before .before .before .before .before .before .before .before .before .before .before .before .before .before) .pre .5, sym ((c .before .before .before .before .before .before .before .before .before .before .before) .bars .ensures) ∙ (c .before .before .before .before .before .before .before .before .before .before) .if3 .left)
 
-add-t32 : tie.Need-add-t32
-add-t32 c = omega (arith, (c .before .before .before .before .before .before .before .before) .take-tag .ensures ((c .before .before .before) .if4 .left) .within .1, (c .before .before .before .before .before .before .before .before .before .before .before .before .before .before .before .before .before .before .before .before) .pre .4)
+add-t29 : tie.Need-add-t29
+add-t29 c = omega (arith, (c .before .before .before .before .before .before .before .before) .take-tag .ensures ((c .before .before .before) .if4 .left) .within .1, (c .before .before .before .before .before .before .before .before .before .before .before .before .before .before .before .before .before .before .before .before) .pre .4)
 
 same-length-3 : tie.Need-same-length-3
-same-length-3 c = (c .before .before .before .before .before .before .before .before) .take-tag .kept .1 .1 .1 .1 .1 .1 .1 .1 .1 .1 .1 .0
+same-length-3 c = (c .before .before .before .before .before .before .before .before) .take-tag .kept .1 .1 .1 .1 .1 .1 .1 .1 .0
 
 same-length-4 : tie.Need-same-length-4
-same-length-4 c = (c .before .before .before .before .before .before .before .before) .take-tag .kept .1 .1 .1 .1 .1 .1 .1 .1 .1 .1 .1 .1 .1 .0
+same-length-4 c = (c .before .before .before .before .before .before .before .before) .take-tag .kept .1 .1 .1 .1 .1 .1 .1 .1 .1 .1 .0
 
 returns-5 : tie.Need-returns-5
 returns-5 c = λ n.
@@ -99,10 +99,10 @@ no-step-requires-5 : tie.Need-no-step-requires-5
 no-step-requires-5 c κs = search needs
 
 same-length-5 : tie.Need-same-length-5
-same-length-5 c = (c .before .before .before .before .before .before .before .before .before .before) .take-tag .kept .1 .1 .1 .1 .1 .1 .1 .1 .1 .1 .1 .0
+same-length-5 c = (c .before .before .before .before .before .before .before .before .before .before) .take-tag .kept .1 .1 .1 .1 .1 .1 .1 .1 .0
 
 same-length-6 : tie.Need-same-length-6
-same-length-6 c = (c .before .before .before .before .before .before .before .before .before .before) .take-tag .kept .1 .1 .1 .1 .1 .1 .1 .1 .1 .1 .1 .1 .1 .0
+same-length-6 c = (c .before .before .before .before .before .before .before .before .before .before) .take-tag .kept .1 .1 .1 .1 .1 .1 .1 .1 .1 .1 .0
 
 returns-6 : tie.Need-returns-6
 returns-6 c = λ n. absurd (n (c .no-step5 .ensures))
@@ -117,10 +117,10 @@ no-step-requires-6 : tie.Need-no-step-requires-6
 no-step-requires-6 c κs = search needs
 
 same-length-7 : tie.Need-same-length-7
-same-length-7 c = (c .before .before .before .before .before .before .before .before .before .before .before .before) .take-tag .kept .1 .1 .1 .1 .1 .1 .1 .1 .1 .1 .1 .0
+same-length-7 c = (c .before .before .before .before .before .before .before .before .before .before .before .before) .take-tag .kept .1 .1 .1 .1 .1 .1 .1 .1 .0
 
 same-length-8 : tie.Need-same-length-8
-same-length-8 c = (c .before .before .before .before .before .before .before .before .before .before .before .before) .take-tag .kept .1 .1 .1 .1 .1 .1 .1 .1 .1 .1 .1 .1 .1 .0
+same-length-8 c = (c .before .before .before .before .before .before .before .before .before .before .before .before) .take-tag .kept .1 .1 .1 .1 .1 .1 .1 .1 .1 .1 .0
 
 returns-7 : tie.Need-returns-7
 returns-7 c = λ n. absurd (n (c .no-step6 .ensures))
@@ -131,14 +131,14 @@ cast-enter-2 c = omega (arith, (c .before .before .before .before .before .befor
 enter-requires-2 : tie.Need-enter-requires-2
 enter-requires-2 c κs = ((c .before .before .before .before .before .before .before .before .before .before .before .before .before .before .before .before .before) .kid .ensures ((c .before .before .before .before .before .before .before .before .before .before .before .before .before .before .before .before) .if2 .left) .low, (c .before .before .before .before .before .before .before .before .before .before .before .before .before .before .before .before .before .before .before .before .before .before .before) .pre .5, sym ((c .before .before .before .before .before .before .before .before .before .before .before .before .before .before .before) .bars .ensures) ∙ (c .before .before .before .before .before .before .before .before .before .before .before .before .before .before) .if3 .left)
 
-add-t22 : tie.Need-add-t22
-add-t22 c = omega (arith, (c .before .before .before .before .before .before .before .before .before .before .before .before) .take-tag .ensures ((c .before .before .before .before .before .before .before) .if4 .left) .within .1, (c .before .before .before .before .before .before .before .before .before .before .before .before .before .before .before .before .before .before .before .before .before .before .before .before) .pre .4)
+add-t19 : tie.Need-add-t19
+add-t19 c = omega (arith, (c .before .before .before .before .before .before .before .before .before .before .before .before) .take-tag .ensures ((c .before .before .before .before .before .before .before) .if4 .left) .within .1, (c .before .before .before .before .before .before .before .before .before .before .before .before .before .before .before .before .before .before .before .before .before .before .before .before) .pre .4)
 
 same-length-9 : tie.Need-same-length-9
-same-length-9 c = (c .before .before .before .before .before .before .before .before .before .before .before .before) .take-tag .kept .1 .1 .1 .1 .1 .1 .1 .1 .1 .1 .1 .0
+same-length-9 c = (c .before .before .before .before .before .before .before .before .before .before .before .before) .take-tag .kept .1 .1 .1 .1 .1 .1 .1 .1 .0
 
 same-length-10 : tie.Need-same-length-10
-same-length-10 c = (c .before .before .before .before .before .before .before .before .before .before .before .before) .take-tag .kept .1 .1 .1 .1 .1 .1 .1 .1 .1 .1 .1 .1 .1 .0
+same-length-10 c = (c .before .before .before .before .before .before .before .before .before .before .before .before) .take-tag .kept .1 .1 .1 .1 .1 .1 .1 .1 .1 .1 .0
 
 returns-8 : tie.Need-returns-8
 returns-8 c = λ n.
@@ -178,7 +178,7 @@ take-start-spec =
     shared-slice-read-if5
     cast-enter
     enter-requires
-    add-t32
+    add-t29
     same-length-3
     same-length-4
     returns-5
@@ -195,7 +195,7 @@ take-start-spec =
     returns-7
     cast-enter-2
     enter-requires-2
-    add-t22
+    add-t19
     same-length-9
     same-length-10
     returns-8)

@@ -41,10 +41,10 @@ take-attrs-requires c κs =
     (S .pre .1, S .pre .2, S .pre .3, S .pre .4, S .pre .5, omega (arith, (c .before .before .before .before .before .before) .if1 .left, long, n, so-many (kindAt (S .args .kind))), omega (arith, S .pre .7, long), S .pre .8, S .pre .9)
 
 same-length : tie.Need-same-length
-same-length c = (c .before .before .before .before .before .before) .take-attrs .kept .1 .1 .1 .1 .1 .1 .1 .1 .1 .1 .0 ∙ (c .before .before .before .before .before .before .before .before .before .before .before) .put-header .kept .0
+same-length c = (c .before .before .before .before .before .before) .take-attrs .kept .1 .1 .1 .1 .1 .1 .1 .0 ∙ (c .before .before .before .before .before .before .before .before .before .before .before) .put-header .kept .0
 
 same-length-2 : tie.Need-same-length-2
-same-length-2 c = (c .before .before .before .before .before .before) .take-attrs .kept .1 .1 .1 .1 .1 .1 .1 .1 .1 .1 .1 .1 .0
+same-length-2 c = (c .before .before .before .before .before .before) .take-attrs .kept .1 .1 .1 .1 .1 .1 .1 .1 .1 .0
 
 returns-2 : tie.Need-returns-2
 returns-2 c = λ n. absurd (n refl)
@@ -53,38 +53,38 @@ tag-fits-requires : tie.Need-tag-fits-requires
 tag-fits-requires c κs =
     let S = (c .before .before .before .before .before .before .before .before .before .before .before .before .before .before .before .before .before .before .before .before) in
     let I = (c .before .before .before .before .before .before .before .before) .take-attrs .ensures ((c .before .before) .if2 .left) in
-    let long = (c .before .before .before .before .before .before .before .before) .take-attrs .kept .1 .1 .1 .1 .1 .1 .1 .1 .1 .1 .0 ∙ (c .before .before .before .before .before .before .before .before .before .before .before .before .before) .put-header .kept .0 in
+    let long = (c .before .before .before .before .before .before .before .before) .take-attrs .kept .1 .1 .1 .1 .1 .1 .1 .0 ∙ (c .before .before .before .before .before .before .before .before .before .before .before .before .before) .put-header .kept .0 in
     let n = (c .before .before .before .before .before .before .before .before .before .before .before .before .before .before .before .before) .count-in .ensures .0 in
     (S .pre .3, omega (arith, (c .before .before .before .before .before .before .before .before .before .before .before .before .before .before .before) .if1 .left, long, n, so-many (kindAt (S .args .kind))), omega (arith, S .pre .7, long), holds-wide (I .room) (I .holds) .lie)
 
 needs-w-requires : tie.Need-needs-w-requires
 needs-w-requires c κs =
     let S = (c .before .before .before .before .before .before .before .before .before .before .before .before .before .before .before .before .before .before .before .before .before .before .before) in
-    let long = (c .before .before .before .before .before .before .before .before .before .before .before) .take-attrs .kept .1 .1 .1 .1 .1 .1 .1 .1 .1 .1 .0 ∙ (c .before .before .before .before .before .before .before .before .before .before .before .before .before .before .before .before) .put-header .kept .0 in
+    let long = (c .before .before .before .before .before .before .before .before .before .before .before) .take-attrs .kept .1 .1 .1 .1 .1 .1 .1 .0 ∙ (c .before .before .before .before .before .before .before .before .before .before .before .before .before .before .before .before) .put-header .kept .0 in
     let n = (c .before .before .before .before .before .before .before .before .before .before .before .before .before .before .before .before .before .before .before) .count-in .ensures .0 in
     (S .pre .3, omega (arith, (c .before .before .before .before .before .before .before .before .before .before .before .before .before .before .before .before .before .before) .if1 .left, long, n, so-many (kindAt (S .args .kind))), omega (arith, S .pre .7, long))
 
 same-length-3 : tie.Need-same-length-3
-same-length-3 c = (c .before .before .before .before .before .before .before .before .before .before .before .before) .take-attrs .kept .1 .1 .1 .1 .1 .1 .1 .1 .1 .1 .0 ∙ (c .before .before .before .before .before .before .before .before .before .before .before .before .before .before .before .before .before) .put-header .kept .0
+same-length-3 c = (c .before .before .before .before .before .before .before .before .before .before .before .before) .take-attrs .kept .1 .1 .1 .1 .1 .1 .1 .0 ∙ (c .before .before .before .before .before .before .before .before .before .before .before .before .before .before .before .before .before) .put-header .kept .0
 
 same-length-4 : tie.Need-same-length-4
-same-length-4 c = (c .before .before .before .before .before .before .before .before .before .before .before .before) .take-attrs .kept .1 .1 .1 .1 .1 .1 .1 .1 .1 .1 .1 .1 .0
+same-length-4 c = (c .before .before .before .before .before .before .before .before .before .before .before .before) .take-attrs .kept .1 .1 .1 .1 .1 .1 .1 .1 .1 .0
 
 returns-3 : tie.Need-returns-3
 returns-3 c = λ n.
     let S = (c .before .before .before .before .before .before .before .before .before .before .before .before .before .before .before .before .before .before .before .before .before .before .before .before) in
     let k = kindAt (S .args .kind) in
     let I = (c .before .before .before .before .before .before .before .before .before .before .before .before) .take-attrs .ensures ((c .before .before .before .before .before .before) .if2 .left) in
-    let long = (c .before .before .before .before .before .before .before .before .before .before .before .before) .take-attrs .kept .1 .1 .1 .1 .1 .1 .1 .1 .1 .1 .0 ∙ (c .before .before .before .before .before .before .before .before .before .before .before .before .before .before .before .before .before) .put-header .kept .0 in
+    let long = (c .before .before .before .before .before .before .before .before .before .before .before .before) .take-attrs .kept .1 .1 .1 .1 .1 .1 .1 .0 ∙ (c .before .before .before .before .before .before .before .before .before .before .before .before .before .before .before .before .before) .put-header .kept .0 in
     tag-in (S .args .page .now) k (S .args .f) (S .args .p) (S .args .from) _ (S .args .tape .now) _ _ _ _ _ _ _ (S .args .kind) (sym (code-back (S .args .kind) (S .pre .3)))
     ((c .before .before .before .before .before .before .before .before .before .before .before .before .before .before .before .before .before) .put-header .ensures) (omega (arith, (c .before .before .before .before .before .before .before .before .before .before .before .before .before .before .before .before .before .before .before .before) .count-in .ensures .0, so-many k)) ((c .before .before .before .before .before .before .before .before .before .before .before .before .before .before .before .before .before .before .before) .if1 .left) long _ I
     ((c .before .before .before) .tag-fits .ensures ((c .before .before) .if3 .taken)) (c .needs-w .ensures (S .args .page .now) _)
 
 same-length-5 : tie.Need-same-length-5
-same-length-5 c = (c .before .before .before .before .before .before .before .before .before .before) .take-attrs .kept .1 .1 .1 .1 .1 .1 .1 .1 .1 .1 .0 ∙ (c .before .before .before .before .before .before .before .before .before .before .before .before .before .before .before) .put-header .kept .0
+same-length-5 c = (c .before .before .before .before .before .before .before .before .before .before) .take-attrs .kept .1 .1 .1 .1 .1 .1 .1 .0 ∙ (c .before .before .before .before .before .before .before .before .before .before .before .before .before .before .before) .put-header .kept .0
 
 same-length-6 : tie.Need-same-length-6
-same-length-6 c = (c .before .before .before .before .before .before .before .before .before .before) .take-attrs .kept .1 .1 .1 .1 .1 .1 .1 .1 .1 .1 .1 .1 .0
+same-length-6 c = (c .before .before .before .before .before .before .before .before .before .before) .take-attrs .kept .1 .1 .1 .1 .1 .1 .1 .1 .1 .0
 
 returns-4 : tie.Need-returns-4
 returns-4 c = λ n. absurd (n refl)

@@ -69,8 +69,8 @@ put-requires c κs =
     let sm = small-span (S .args .page .now) _ _ _ (S .pre .1) (val .span) in
     (omega (arith, N .known, S .pre .5), sm .0, sm .1)
 
-add-t20 : tie.Need-add-t20
-add-t20 c =
+add-t17 : tie.Need-add-t17
+add-t17 c =
     let val = (c .before .before .before .before .before .before .before .before .before) .take-value .ensures ((c .before .before .before .before .before) .if3 .left) .0 in
     omega (arith, val .raw .within .1, (c .before .before .before .before .before .before .before .before .before .before .before .before .before .before .before .before .before .before .before .before .before .before .before) .pre .1)
 
@@ -132,7 +132,7 @@ take-attr-spec =
     same-length-3
     returns-3
     put-requires
-    add-t20
+    add-t17
     same-length-4
     same-length-5
     returns-4)

@@ -12,10 +12,10 @@ use Rattle.quick.proofs.take.take_attrs.Statement.{statement}
 use Rattle.quick.proofs.take.take_attrs.Tie as tie
 
 abbrev Inv-loop : tie.InvT-loop
-Inv-loop page from kind keys letters odd rules leasts mosts tildes tape₀ base side₀ used i₀ m₀ tape side i m = HeldIn page (kindAt kind) base from i tape₀ tape side₀ side used m
+Inv-loop page from kind keys letters odd limits tape₀ base side₀ used i₀ m₀ tape side i m = HeldIn page (kindAt kind) base from i tape₀ tape side₀ side used m
 
 abbrev μ-loop : tie.MeasureT-loop
-μ-loop page from kind keys letters odd rules leasts mosts tildes tape₀ base side₀ used i₀ m₀ tape side i m = length page - i
+μ-loop page from kind keys letters odd limits tape₀ base side₀ used i₀ m₀ tape side i m = length page - i
 
 count-in-requires : tie.Need-count-in-requires Inv-loop μ-loop
 count-in-requires c κs = let S = (c .before .before .before .before) in (S .pre .2, S .pre .3 .letters-are)
@@ -89,10 +89,10 @@ take-attr-requires c κs =
     (R .2 (H .within .1), S .pre .1, S .pre .2, S .pre .3, S .pre .4, H .wide .0, omega (arith, S .pre .6, H .wide .1, (c .before .before .before .before .before .before .before .before .before .before .before) .clear .kept .0), H .room .0, omega (arith, S .pre .8, H .room .1))
 
 same-length-7 : tie.Need-same-length-7 Inv-loop μ-loop
-same-length-7 c = (c .before .before .before .before .before .before) .take-attr .kept .1 .1 .1 .1 .1 .1 .1 .1 .1 .1 .0 ∙ (c .before .before .before .before .before .before .before .before .before .before .before .before .before .before .before) .loop .inv .wide .1 ∙ (c .before .before .before .before .before .before .before .before .before .before .before .before .before .before .before .before .before .before) .clear .kept .0
+same-length-7 c = (c .before .before .before .before .before .before) .take-attr .kept .1 .1 .1 .1 .1 .1 .1 .0 ∙ (c .before .before .before .before .before .before .before .before .before .before .before .before .before .before .before) .loop .inv .wide .1 ∙ (c .before .before .before .before .before .before .before .before .before .before .before .before .before .before .before .before .before .before) .clear .kept .0
 
 same-length-8 : tie.Need-same-length-8 Inv-loop μ-loop
-same-length-8 c = (c .before .before .before .before .before .before) .take-attr .kept .1 .1 .1 .1 .1 .1 .1 .1 .1 .1 .1 .1 .0 ∙ (c .before .before .before .before .before .before .before .before .before .before .before .before .before .before .before) .loop .inv .room .1
+same-length-8 c = (c .before .before .before .before .before .before) .take-attr .kept .1 .1 .1 .1 .1 .1 .1 .1 .1 .0 ∙ (c .before .before .before .before .before .before .before .before .before .before .before .before .before .before .before) .loop .inv .room .1
 
 returns-4 : tie.Need-returns-4 Inv-loop μ-loop
 returns-4 c = λ n. absurd (n refl)
@@ -107,7 +107,7 @@ loop-again : tie.Need-loop-again Inv-loop μ-loop
 loop-again c =
     let A = (c .before .before .before .before .before .before) .take-attr .ensures (c .if4 .left) in
     let R = (c .before .before .before .before .before .before .before .before .before .before .before .before .before) .spaces-end .ensures in
-    again-in ((c .before .before .before .before .before .before .before .before .before .before .before .before .before .before .before) .loop .inv) ((c .before .before .before .before .before .before .before .before .before .before .before .before .before) .spaces-end .result) (R .0) _ _ _ _ (omega (arith, R .1, (c .before .before .before .before .before .before .before .before .before) .if3 .left)) ((c .before .before .before .before .before .before) .take-attr .kept .1 .1 .1 .1 .1 .1 .1 .1 .1 .1 .1 .1 .0) A
+    again-in ((c .before .before .before .before .before .before .before .before .before .before .before .before .before .before .before) .loop .inv) ((c .before .before .before .before .before .before .before .before .before .before .before .before .before) .spaces-end .result) (R .0) _ _ _ _ (omega (arith, R .1, (c .before .before .before .before .before .before .before .before .before) .if3 .left)) ((c .before .before .before .before .before .before) .take-attr .kept .1 .1 .1 .1 .1 .1 .1 .1 .1 .0) A
 
 same-length-9 : tie.Need-same-length-9 Inv-loop μ-loop
 same-length-9 c = (c .before) .loop .inv .wide .1 ∙ (c .before .before .before .before) .clear .kept .0

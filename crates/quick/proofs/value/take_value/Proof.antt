@@ -27,20 +27,17 @@ same-length c = search needs
 returns : tie.Need-returns
 returns c = (c .before .before) .odd-value .ensures
 
-element-copy-out-is-absent : tie.Need-element-copy-out-is-absent
-element-copy-out-is-absent c = search needs
-
 is-absent-requires : tie.Need-is-absent-requires
 is-absent-requires c κs =
-    let P = (c .before .before .before) .plain-value .ensures ((c .before) .if1 .left) in
-    (P .within .0, omega (arith, P .within .1, P .within .2))
+    let P = (c .before .before) .plain-value .ensures ((c) .if1 .left) in
+    (P .within .0, omega (arith, P .within .1, P .within .2), c .before .before .before .before .before .pre .4, c .before .before .before .before .before .pre .5 .limits-are)
 
 returns-2 : tie.Need-returns-2
 returns-2 c = λ n.
-    let S = (c .before .before .before .before .before .before .before .before) in
-    let P = (c .before .before .before .before .before) .plain-value .ensures ((c .before .before .before) .if1 .left) in
+    let S = (c .before .before .before .before .before .before .before) in
+    let P = (c .before .before .before .before) .plain-value .ensures ((c .before .before) .if1 .left) in
     let id = S .args .id in
-    let e = settled-none (S .args .rules .now) id (S .pre .5 .rules-are) _ (sym ((c .before) .is-absent .ensures) ∙ c .if2 .taken) in (
+    let e = settled-none (fieldAt id) _ (sym ((c .before) .is-absent .ensures) ∙ c .if2 .taken) in (
       none-there (S .args .page .now) (S .args .at) (S .args .q) id _ (plain-raw P) (S .pre .0) (S .pre .2) (S .args .side .now) (S .args .used) (S .pre .6) (e ∙ ap (settle (fieldAt id)) (P .right)),
       record { same = refl; up = omega arith },
       omega (arith, P .within .0, P .within .1),
@@ -48,18 +45,18 @@ returns-2 c = λ n.
 
 keeps-text-requires : tie.Need-keeps-text-requires
 keeps-text-requires c κs =
-    let S = (c .before .before .before .before .before .before .before .before) in
+    let S = (c .before .before .before .before .before .before .before) in
     let T = S .pre .5 in
-    let P = (c .before .before .before .before .before) .plain-value .ensures ((c .before .before .before) .if1 .left) in
-    let v = slice (S .args .at) ((c .before .before .before .before .before) .plain-value .result .end) (S .args .page .now) in
-    (P .within .0, omega (arith, P .within .1, P .within .2), S .pre .4, T .rules-are, T .leasts-are, T .mosts-are, ordinary-decoded v (P .clean), omega (arith, ordinary-whole v (P .clean)))
+    let P = (c .before .before .before .before) .plain-value .ensures ((c .before .before) .if1 .left) in
+    let v = slice (S .args .at) ((c .before .before .before .before) .plain-value .result .end) (S .args .page .now) in
+    (P .within .0, omega (arith, P .within .1, P .within .2), S .pre .4, T .limits-are, ordinary-decoded v (P .clean), omega (arith, ordinary-whole v (P .clean)))
 
 returns-3 : tie.Need-returns-3
 returns-3 c = λ n.
-    let S = (c .before .before .before .before .before .before .before .before .before .before) in
-    let P = (c .before .before .before .before .before .before .before) .plain-value .ensures ((c .before .before .before .before .before) .if1 .left) in
+    let S = (c .before .before .before .before .before .before .before .before .before) in
+    let P = (c .before .before .before .before .before .before) .plain-value .ensures ((c .before .before .before .before) .if1 .left) in
     let id = S .args .id in
-    let e = settled-some (S .args .rules .now) id (S .pre .5 .rules-are) _ (sym ((c .before .before .before) .is-absent .ensures) ∙ (c .before .before) .if2 .left) in (
+    let e = settled-some (fieldAt id) _ (sym ((c .before .before .before) .is-absent .ensures) ∙ (c .before .before) .if2 .left) in (
       in-page (S .args .page .now) (S .args .at) (S .args .q) id _ (plain-raw P) (S .pre .0) (S .pre .2) (S .args .side .now) _ (S .args .used) (S .pre .6) (P .within .0) (P .within .1) (P .right) e
           ((c .before) .keeps-text .ensures (c .if3 .taken)),
       record { same = refl; up = omega arith },
@@ -77,7 +74,6 @@ take-value-spec =
     odd-value-requires
     same-length
     returns
-    element-copy-out-is-absent
     is-absent-requires
     returns-2
     keeps-text-requires

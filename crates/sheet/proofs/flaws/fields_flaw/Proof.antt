@@ -21,10 +21,10 @@ record Held (w room₀ room : List ℕ) (k : Kind) (rs : List Raw) (count worst 
   pub right : fieldsFrom w k rs 9 0 ≡ fieldsFrom w k rs worst j
 
 abbrev Inv-loop : tie.InvT-loop
-Inv-loop page kind rules leasts mosts tildes musts scratch₀ raws first count worst₀ j₀ scratch worst j = Held page scratch₀ scratch (kindAt kind) raws count worst j
+Inv-loop page kind limits scratch₀ raws first count worst₀ j₀ scratch worst j = Held page scratch₀ scratch (kindAt kind) raws count worst j
 
 abbrev μ-loop : tie.MeasureT-loop
-μ-loop page kind rules leasts mosts tildes musts scratch₀ raws first count worst₀ j₀ scratch worst j = count - j
+μ-loop page kind limits scratch₀ raws first count worst₀ j₀ scratch worst j = count - j
 
 first-of-requires : tie.Need-first-of-requires Inv-loop μ-loop
 first-of-requires c κs = search needs
@@ -72,7 +72,7 @@ loop-again c =
     let C = L .before in
     record {
       within = search needs;
-      long = F .field-flaw .kept .1 .1 .1 .1 .1 .1 .1 .1 .0 ∙ L .loop .inv .long;
+      long = F .field-flaw .kept .1 .1 .1 .1 .0 ∙ L .loop .inv .long;
       right = L .loop .inv .right ∙ turn-missing _ _ _ _ _ _ _ _ (C .before .first-of .ensures) (C .count-of .ensures .0) (F .before .before .before .loop-test .taken) (F .field-flaw .ensures) (c .if2 .taken);
     }
 
@@ -86,7 +86,7 @@ loop-again-2 c =
     let C = L .before in
     record {
       within = search needs;
-      long = F .field-flaw .kept .1 .1 .1 .1 .1 .1 .1 .1 .0 ∙ L .loop .inv .long;
+      long = F .field-flaw .kept .1 .1 .1 .1 .0 ∙ L .loop .inv .long;
       right = L .loop .inv .right ∙ turn-fine _ _ _ _ _ _ _ _ (C .before .first-of .ensures) (C .count-of .ensures .0) (F .before .before .before .loop-test .taken) (F .field-flaw .ensures) (c .before .if1 .left) (c .if2 .left);
     }
 

@@ -15,38 +15,40 @@ use Rattle.markup.specs.Walk.{Inside, tagsAt, tagOf, insideAt, Outer}
 use Rattle.markup.specs.declared.walk.Mark.{Mark}
 use Rattle.markup.specs.declared.walk.Mark.the-variants.{Start, End, Nothing}
 use Rattle.fields.specs.Places.{kindAt}
-use Rattle.fields.specs.Columns.{keyColumn}
+use Rattle.fields.specs.Columns.{keyColumn, limitColumn}
+use Rattle.fields.proofs.RuleLaws.{part-is}
 use Rattle.sheet.specs.Fold.{St, given, kindUnder, barred, strange, opened, judgeFold, foldPage}
 use Rattle.sheet.specs.Judged.{stOf, left, Sound, verdictBy}
 use Rattle.sheet.specs.declared.state.State.{State}
-use Rattle.sheet.proofs.JudgeLaws.{part-is, five-at, on-nothing, on-end, on-start}
+use Rattle.sheet.proofs.JudgeLaws.{five-at, on-nothing, on-end, on-start}
 use Rattle.sheet.proofs.judge.faults_of.Statement.{statement}
 use Rattle.sheet.proofs.judge.faults_of.Tie as tie
 
 -- what holds before each tag
-record Held (w scratch₀ keys scratch : List ℕ) (st : State) (at : ℕ) : Type 0 where
+record Held (w scratch₀ keys limits scratch : List ℕ) (st : State) (at : ℕ) : Type 0 where
   pub inner : at ≤ length w
   pub long : length scratch ≡ length scratch₀
   pub table : keys ≡ keyColumn
+  pub bounds : limits ≡ limitColumn
   pub sound : Sound st
   pub right : foldPage (tagsAt w 0) ≡ judgeFold (stOf st) (tagsAt w at)
 
 abbrev Inv-loop : tie.InvT-loop
-Inv-loop page scratch₀ keys st₀ at₀ scratch st at = Held page scratch₀ keys scratch st at
+Inv-loop page scratch₀ keys limits st₀ at₀ scratch st at = Held page scratch₀ keys limits scratch st at
 
 abbrev μ-loop : tie.MeasureT-loop
-μ-loop page scratch₀ keys st₀ at₀ scratch st at = length page - at
+μ-loop page scratch₀ keys limits st₀ at₀ scratch st at = length page - at
 
 -- the page, where the loop begins a turn
 abbrev pageAt : tie.At-loop Inv-loop μ-loop → List ℕ
-pageAt L = L .before .before .before .before .before .args .page .now
+pageAt L = L .before .before .before .before .before .before .args .page .now
 
 -- the page is at most 1,400 bytes long, and the room for a value is not shorter
 short : (L : tie.At-loop Inv-loop μ-loop) → length (pageAt L) ≤ 1400
-short L = L .before .before .before .before .before .pre .0
+short L = L .before .before .before .before .before .before .pre .0
 
 roomy : (L : tie.At-loop Inv-loop μ-loop) → length (pageAt L) ≤ length (L .loop .scratch)
-roomy L = omega (arith, short L, L .before .before .before .before .before .pre .1, L .loop .inv .long)
+roomy L = omega (arith, short L, L .before .before .before .before .before .before .pre .1, L .loop .inv .long)
 
 -- the tag that a turn finds: its places, and what it is among the tags
 module _ (N : tie.After-next-tag Inv-loop μ-loop) (m : Mark) (e : N .next-tag .result ≡ m) where
@@ -107,10 +109,13 @@ module _ (c : tie.After-kind-under Inv-loop μ-loop) where
       at-loop .loop .inv .right
       ∙ on-start (stOf (at-loop .loop .st)) _ (tagsAt w (i + 1)) i (slice (i + 1) e w) (within .attrs) (within .shut) (c .kind-under .result)
       (shape (started-by at-mark) (Start i e) (at-mark .mark2 .given .1))
-      (c .kind-under .ensures .0 ∙ ap (λ (n : List ℕ). code (kindUnder (at-loop .loop .st .cur) n)) (part-is w (i + 1) e (omega (arith, start-order at-mark .1))))
+      (c .kind-under .ensures .0 ∙ ap (λ (n : List ℕ). code (kindUnder (at-loop .loop .st .cur) n)) (part-is w (i + 1) e))
 
 keys-requires : tie.Need-keys-requires Inv-loop μ-loop
 keys-requires c κs = search needs
+
+limits-requires : tie.Need-limits-requires Inv-loop μ-loop
+limits-requires c κs = search needs
 
 before-requires : tie.Need-before-requires Inv-loop μ-loop
 before-requires c κs = search needs
@@ -120,9 +125,10 @@ unfolding foldPage
 loop-holds c = record {
   inner = search needs;
   long = refl;
-  table = c .before .keys .ensures;
+  table = c .before .before .keys .ensures;
+  bounds = c .before .limits .ensures;
   sound = c .before2 .ensures .1;
-  right = ap (λ (s : St). judgeFold s (tagsAt (c .before .before .before .before .args .page .now) 0)) (sym (c .before2 .ensures .0));
+  right = ap (λ (s : St). judgeFold s (tagsAt (c .before .before .before .before .before .args .page .now) 0)) (sym (c .before2 .ensures .0));
 }
 
 next-tag-requires : tie.Need-next-tag-requires Inv-loop μ-loop
@@ -168,6 +174,7 @@ loop-again c =
       inner = omega (arith, end-order M .1);
       long = L .loop .inv .long;
       table = L .loop .inv .table;
+      bounds = L .loop .inv .bounds;
       sound = c .close .ensures .1;
       right = L .loop .inv .right ∙ on-end (stOf (L .loop .st)) _ _ (shape (ended-by M) (End (end-at M)) (M .mark .given .1))
           ∙ ap (λ (s : St). judgeFold s (tagsAt (pageAt L) (end-at M + 1))) (sym (c .close .ensures .0));
@@ -224,29 +231,29 @@ returns-3 c =
 
 flaw-of-requires : tie.Need-flaw-of-requires Inv-loop μ-loop
 flaw-of-requires c κs =
-    let E = c .before .before .before in
+    let E = c .before .before .before .before in
     let K = E .before .before .before .before in
     let L = at-loop K in
-    (short L, roomy L, K .kind-under .ensures .1)
+    (roomy L, K .kind-under .ensures .1, L .loop .inv .bounds)
 
 needs-w-requires : tie.Need-needs-w-requires Inv-loop μ-loop
 needs-w-requires c κs =
     let F = c .before .before .before in
-    let E = F .before .before .before .before in
+    let E = F .before .before .before .before .before in
     let K = E .before .before .before .before in
     let L = at-loop K in
-    (short L, omega (arith, roomy L, F .flaw-of .kept .1 .1 .1 .0), K .kind-under .ensures .1)
+    (short L, omega (arith, roomy L, F .flaw-of .kept .1 .1 .1 .1 .0), K .kind-under .ensures .1)
 
 enter-requires : tie.Need-enter-requires Inv-loop μ-loop
 enter-requires c κs =
     let F = c .before .before .before .before .before .before in
-    let X = F .before .before .before .before .before .before in
+    let X = F .before .before .before .before .before .before .before in
     let K = X .before .before in
     (K .kind-under .ensures .1, at-loop K .loop .inv .sound, sym (X .before .bars .ensures) ∙ X .if1 .left)
 
 -- where the element of the start tag that is left behind is known
 abbrev known-at : tie.After-enter Inv-loop μ-loop → tie.After-kind-under Inv-loop μ-loop
-known-at c = c .before .before .before .before .before .before .before .before .before .before .before .before .before .before .before
+known-at c = c .before .before .before .before .before .before .before .before .before .before .before .before .before .before .before .before
 
 add-at-2 : tie.Need-add-at-2 Inv-loop μ-loop
 add-at-2 c =
@@ -261,7 +268,7 @@ loop-again-2 : tie.Need-loop-again-2 Inv-loop μ-loop
 loop-again-2 c =
     let W = c .before .before .before in
     let F = W .before .before .before .before in
-    let Y = F .before .before .before in
+    let Y = F .before .before .before .before in
     let E = Y .before in
     let X = E .before .before in
     let K = X .before .before in
@@ -272,8 +279,9 @@ loop-again-2 c =
     let (shut, tells) = E .find .ensures .1 (Y .if2 .left) in
     record {
       inner = omega (arith, h .1, h .2);
-      long = W .needs-w .kept .1 .1 .1 .0 ∙ F .flaw-of .kept .1 .1 .1 .0 ∙ L .loop .inv .long;
+      long = W .needs-w .kept .1 .1 .1 .0 ∙ F .flaw-of .kept .1 .1 .1 .1 .0 ∙ L .loop .inv .long;
       table = L .loop .inv .table;
+      bounds = L .loop .inv .bounds;
       sound = c .enter .ensures .1;
       right = turn K ∙ rw (sym (X .before .bars .ensures) ∙ X .if1 .left, sym (E .find .ensures .0) ∙ Y .if2 .left)
           (ap (λ (s : St). judgeFold s (tagsAt (pageAt L) (start-at M + 1)))
@@ -287,6 +295,7 @@ faults-of-spec =
     Inv-loop
     μ-loop
     keys-requires
+    limits-requires
     before-requires
     loop-holds
     next-tag-requires

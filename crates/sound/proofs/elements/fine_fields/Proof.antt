@@ -11,10 +11,10 @@ use Rattle.sound.proofs.elements.fine_fields.Statement.{statement}
 use Rattle.sound.proofs.elements.fine_fields.Tie as tie
 
 abbrev Inv-loop : tie.InvT-loop
-Inv-loop numbers j first count text rules leasts mosts tildes musts i₀ i = (i ≤ count) × (fineFrom text first count j numbers ≡ fineFrom text (first + i) (count - i) (j + i) numbers)
+Inv-loop numbers j first count text limits i₀ i = (i ≤ count) × (fineFrom text first count j numbers ≡ fineFrom text (first + i) (count - i) (j + i) numbers)
 
 abbrev μ-loop : tie.MeasureT-loop
-μ-loop numbers j first count text rules leasts mosts tildes musts i₀ i = count - i
+μ-loop numbers j first count text limits i₀ i = count - i
 
 loop-holds : tie.Need-loop-holds Inv-loop μ-loop
 loop-holds c = (omega arith, fields-start _ _ _ _ _)

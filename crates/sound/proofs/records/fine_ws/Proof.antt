@@ -11,10 +11,10 @@ use Rattle.sound.proofs.records.fine_ws.Statement.{statement}
 use Rattle.sound.proofs.records.fine_ws.Tie as tie
 
 abbrev Inv-loop : tie.InvT-loop
-Inv-loop numbers n text rules leasts mosts tildes musts i₀ i = (i ≤ n) × (fineWs text n 13 numbers ≡ fineWs text (n - i) (13 + 2 * i) numbers)
+Inv-loop numbers n text limits i₀ i = (i ≤ n) × (fineWs text n 13 numbers ≡ fineWs text (n - i) (13 + 2 * i) numbers)
 
 abbrev μ-loop : tie.MeasureT-loop
-μ-loop numbers n text rules leasts mosts tildes musts i₀ i = n - i
+μ-loop numbers n text limits i₀ i = n - i
 
 loop-holds : tie.Need-loop-holds Inv-loop μ-loop
 loop-holds c = (omega arith, ws-start _ _ _)

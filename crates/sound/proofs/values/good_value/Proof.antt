@@ -1,67 +1,84 @@
--- `sound::values::good_value` meets its contract: its field, its last byte and the dose of 0 are the tests of a good value.
+-- `sound::values::good_value` meets its contract: its field decides; a value that is there must be as reading gives it.
 -- Assumes nothing.
 use mathlib.Core.Path.{_≡_, sym, ap, _∙_}
-use mathlib.Core.Bool.{Bool, true, false, not}
-use borrow.Author.Tests.{not-true, not-false}
+use mathlib.Core.Bool.{Bool, true, false, not, _&&_}
+use mathlib.Core.List.{List}
+use Prim.Native.Nat.{ℕ}
+use native.Mathlib.Omega.{arith}
+use lib.Dec.{eqb}
+use lib.ListN.{length}
+use lib.Seq.{slice, length-slice}
+use borrow.Author.Tests.{eq-eqb, ne-eqb}
+use Rattle.paper.specs.Lists.{same}
+use Rattle.paper.specs.Values.{cut}
 use Rattle.paper.specs.Fields.{Rule}
 use Rattle.paper.specs.Rules.{isZero}
-use Rattle.paper.specs.Writing.{goodSlot}
-use Rattle.fields.specs.Places.{fieldAt}
-use Rattle.sound.proofs.ValueLaws.{good-broken, good-blank, good-zero, rule-in}
+use Rattle.fields.specs.Places.{ruleAt, fieldAt, fieldFlaw}
+use Rattle.fields.proofs.RuleLaws.{rule-back, part-is, part-empty, part-some}
+use Rattle.sound.specs.Judged.{goodValue}
+use Rattle.sound.proofs.ValueLaws.{value-absent, value-present, flawed}
 use borrow.Author.Needs.{needs}
 use Rattle.sound.proofs.values.good_value.Statement.{statement}
 use Rattle.sound.proofs.values.good_value.Tie as tie
 
--- by whether it is a dose of 0
-by-zero : (Z : tie.After-is-zero) (z : Bool) → Z .is-zero .result ≡ z → let a = Z .before .before .before .before .before .before .before .args in not z ≡ goodSlot (fieldAt (a .id)) (a .v .now)
-by-zero Z z e =
-    let B = Z .before .before .before in
-    let K = B .before .before in
-    let S = K .before .before in
-    let a = S .args in
-    good-zero (fieldAt (a .id)) (a .v .now) (S .pre .0) (sym (K .keeps-in .ensures) ∙ not-false _ (B .before .if1 .left)) (sym (B .ends-blank .ensures) ∙ Z .before .before .if2 .left) z
-    (sym (Z .is-zero .ensures ∙ ap (λ (r : Rule). isZero r (a .v .now)) (rule-in (a .rules .now) (a .id) (S .pre .2))) ∙ e)
+-- the value that is judged
+abbrev valueOf : tie.Start → List ℕ
+valueOf S = slice (S .args .from) (S .args .to) (S .args .text .now)
 
-keeps-in-requires : tie.Need-keeps-in-requires
-keeps-in-requires c κs = search needs
+value-flaw-requires : tie.Need-value-flaw-requires
+value-flaw-requires c κs = search needs
 
 returns : tie.Need-returns
 returns c =
-    let K = c .before in
-    let S = K .before .before in
-    good-broken (fieldAt (S .args .id)) (S .args .v .now) (S .pre .0) (sym (K .keeps-in .ensures) ∙ not-true _ (c .if1 .taken))
-
-ends-blank-requires : tie.Need-ends-blank-requires
-ends-blank-requires c κs = search needs
+    let S = c .before .before .before in
+    flawed (fieldAt (S .args .id)) (valueOf S) (ne-eqb _ 9 (λ e. c .if1 .taken (c .before .value-flaw .ensures ∙ e)))
 
 returns-2 : tie.Need-returns-2
 returns-2 c =
-    let B = c .before in
-    let K = B .before .before in
-    let S = K .before .before in
-    good-blank (fieldAt (S .args .id)) (S .args .v .now) (S .pre .0) (sym (K .keeps-in .ensures) ∙ not-false _ (B .before .if1 .left)) (sym (B .ends-blank .ensures) ∙ c .if2 .taken)
+    let S = c .before .before .before .before in
+    sym (eq-eqb _ 9 (sym (c .before .before .value-flaw .ensures) ∙ c .before .if1 .left)) ∙ value-absent (fieldAt (S .args .id)) (valueOf S) (part-empty _ _ _ (c .if2 .taken))
 
-element-copy-out-is-zero : tie.Need-element-copy-out-is-zero
-element-copy-out-is-zero c = search needs
+sub-is-as-read : tie.Need-sub-is-as-read
+sub-is-as-read c = search needs
 
-is-zero-requires : tie.Need-is-zero-requires
-is-zero-requires c κs = search needs
+part-is-as-read-start : tie.Need-part-is-as-read-start
+part-is-as-read-start c = search needs
+
+part-is-as-read-end : tie.Need-part-is-as-read-end
+part-is-as-read-end c = search needs
+
+rule-in-requires : tie.Need-rule-in-requires
+rule-in-requires c κs = search needs
+
+is-as-read-requires : tie.Need-is-as-read-requires
+is-as-read-requires c κs =
+    let S = c .before .before .before .before .before .before in
+    let t = S .args .text .now in
+    omega (arith, ap length (part-is t (S .args .from) (S .args .to)), length-slice (S .args .from) (S .args .to) t (S .pre .1), c .before .before .if2 .left, S .pre .0)
 
 returns-3 : tie.Need-returns-3
-returns-3 c = by-zero (c .before) true (c .if3 .taken)
-
-returns-4 : tie.Need-returns-4
-returns-4 c = by-zero (c .before) false (c .if3 .left)
+returns-3 c =
+    let S = c .before .before .before .before .before .before .before in
+    let f = fieldAt (S .args .id) in
+    let v = valueOf S in
+    let e : eqb (fieldFlaw f v) 9 ≡ true = eq-eqb _ 9 (sym (c .before .before .before .before .before .value-flaw .ensures) ∙ c .before .before .before .before .if1 .left) in
+    c .is-as-read .ensures
+    ∙ ap (λ (u : List ℕ). same (cut u) u && not (isZero (ruleAt (c .before .rule-in .result)) u)) (part-is (S .args .text .now) (S .args .from) (S .args .to))
+    ∙ ap (λ (n : ℕ). same (cut v) v && not (isZero (ruleAt n) v)) (c .before .rule-in .ensures)
+    ∙ ap (λ (r : Rule). same (cut v) v && not (isZero r v)) (rule-back (f .rule))
+    ∙ ap (λ (b : Bool). b && (same (cut v) v && not (isZero (f .rule) v))) (sym e)
+    ∙ value-present f v (part-some (S .args .text .now) _ _ (S .pre .0) (S .pre .1) (c .before .before .before .if2 .left))
 
 pub good-value-spec : {M : Type 1} → statement M
 good-value-spec =
     tie.close
     (tie.spec
-    keeps-in-requires
+    value-flaw-requires
     returns
-    ends-blank-requires
     returns-2
-    element-copy-out-is-zero
-    is-zero-requires
-    returns-3
-    returns-4)
+    sub-is-as-read
+    part-is-as-read-start
+    part-is-as-read-end
+    rule-in-requires
+    is-as-read-requires
+    returns-3)

@@ -1,11 +1,11 @@
--- `sheet::flaws::flaw_in` meets its contract: each answer is the least fault where no lower one was found.
+-- `sheet::flaws::flaw_of` meets its contract: each answer is the least fault where no lower one was found.
 -- Assumes nothing.
 use mathlib.Core.Path.{sym, _∙_}
 use native.Mathlib.Omega.{arith}
 use Rattle.sheet.proofs.FlawLaws.{unbroken, flaw-six, flaw-seven, flaw-pages, flaw-eight, flaw-clash, flaw-none}
 use borrow.Author.Needs.{needs}
-use Rattle.sheet.proofs.flaws.flaw_in.Statement.{statement}
-use Rattle.sheet.proofs.flaws.flaw_in.Tie as tie
+use Rattle.sheet.proofs.flaws.flaw_of.Statement.{statement}
+use Rattle.sheet.proofs.flaws.flaw_of.Tie as tie
 
 edition-differs-requires : tie.Need-edition-differs-requires
 edition-differs-requires c κs = search needs
@@ -37,7 +37,7 @@ pages-flaw-requires c κs =
     let O = J .before .before .before in
     let E = O .before .before .before .before .before in
     let S = E .before .before .before .before in
-    (omega (arith, S .pre .0, O .fields-flaw .kept .1 .1 .1 .1 .1 .1 .1 .1 .0, E .edition-differs .kept .1 .1 .1 .0), S .pre .1, unbroken _ _ _ (O .fields-flaw .ensures) (J .if2 .left))
+    (omega (arith, S .pre .0, O .fields-flaw .kept .1 .1 .1 .1 .0, E .edition-differs .kept .1 .1 .1 .0), S .pre .1, unbroken _ _ _ (O .fields-flaw .ensures) (J .if2 .left))
 
 same-length-3 : tie.Need-same-length-3
 same-length-3 c = search needs
@@ -92,8 +92,8 @@ returns-6 c =
     λ l T. flaw-none T (sym (I .if1 .left) ∙ E .edition-differs .ensures) _ (O .fields-flaw .ensures) (J .if2 .left) _ (G .pages-flaw .ensures) (c .before .before .before .if3 .left)
     (c .before .before .if4 .left) (sym (c .if5 .left) ∙ c .before .clashes .ensures)
 
-pub flaw-in-spec : {M : Type 1} → statement M
-flaw-in-spec =
+pub flaw-of-spec : {M : Type 1} → statement M
+flaw-of-spec =
     tie.close
     (tie.spec
     edition-differs-requires
