@@ -3,13 +3,13 @@
 use mathlib.Core.Path.{_≡_, refl, sym, ap, _∙_}
 use mathlib.Core.Bool.{Bool, true, false, not, _&&_, _||_}
 use mathlib.Core.List.{List, [], _∷_}
-use Prim.Native.Nat.{ℕ, zero, suc, _+_, _-_, _≤_, _<_}
-use native.Mathlib.Nat.{add-zero, sub-zero, zero-sub, suc-sub-suc}
+use Prim.Native.Nat.{ℕ, zero, suc, _+_, _≤_, _<_}
+use native.Mathlib.Nat.{add-zero}
 use native.Mathlib.Numerals.{add-one}
 use native.Mathlib.Omega.{arith}
 use lib.Dec.{eqb, leb, ltb, eqb→eq}
-use lib.ListN.{length, take, drop, getD, drop-of-length-le, List·getD-eq-default}
-use lib.Seq.{take-nil, drop-cons, slice, slice-empty, length-slice}
+use lib.ListN.{length, drop, getD, drop-of-length-le, List·getD-eq-default}
+use lib.Seq.{drop-cons}
 use borrow.Author.Tests.{ne-eqb, eqb-true, le-leb, lt-leb, ltb-true, ltb-false}
 use Rattle.paper.specs.Lists.{if, every, count, same, isEmpty}
 use Rattle.paper.specs.Bytes.{isDecoded}
@@ -197,22 +197,3 @@ module _ (f : Field) (v : List ℕ) where
   pub flaw-broken : isEmpty v ≡ false → keeps f v ≡ false → 7 ≡ fieldFlaw f v
   unfolding fieldFlaw
   flaw-broken e k = rw (e, k)
-
--- what a function that is lent a part of a text is lent
-pub part-is : (t : List ℕ) (i j : ℕ) → take (j - i) (drop i t) ≡ slice i j t
-part-is t zero j = rw (sub-zero j)
-part-is [] (suc i) zero = take-nil (zero - suc i)
-part-is [] (suc i) (suc j) = take-nil (suc j - suc i)
-part-is (c ∷ t) (suc i) zero = rw (zero-sub (suc i))
-part-is (c ∷ t) (suc i) (suc j) = rw (suc-sub-suc j i) (part-is t i j)
-
--- a part from a place up to itself is empty, and any other is not
-pub part-empty : (t : List ℕ) (i j : ℕ) → i ≡ j → [] ≡ slice i j t
-part-empty t i j e = sym (ap (λ (k : ℕ). slice i k t) (sym e) ∙ slice-empty i t)
-
-pub part-some : (t : List ℕ) (i j : ℕ) → i ≤ j → j ≤ length t → (i ≡ j → ⊥) → isEmpty (slice i j t) ≡ false
-part-some t i j h l n = go (slice i j t) (length-slice i j t l)
-  where
-    go : (v : List ℕ) → length v ≡ j - i → isEmpty v ≡ false
-    go [] e = absurd (n (omega arith))
-    go (c ∷ v) e = refl

@@ -12,7 +12,7 @@ use Rattle.paper.specs.Lists.{same, number}
 use Rattle.paper.specs.Plan.{Slots, sameSlots}
 use Rattle.page.specs.Laying.{Room, Lays}
 use Rattle.page.proofs.ContentLaws.{Going, turn, room-left, room-first, room-one, regoing, replaced}
-use Rattle.fields.proofs.RuleLaws.{part-is}
+use Rattle.room.proofs.Parts.{part-is}
 use Rattle.tape.specs.Tape.{shownIn, valuesAt, Span, Spans}
 
 -- a value in the page, and one in the side room

@@ -18,7 +18,7 @@ use Rattle.paper.specs.Rules.{keeps, isZero, settle}
 use Rattle.paper.specs.Judging.{breaks}
 use Rattle.paper.proofs.Small.{no}
 use Rattle.fields.specs.Places.{fieldAt}
-use Rattle.fields.proofs.RuleLaws.{part-empty}
+use Rattle.room.proofs.Parts.{part-empty}
 use Rattle.quick.specs.Plain.{ordinary, Plainly}
 use Rattle.quick.specs.Passed.{RawAt}
 use Rattle.tape.specs.Tape.{aside, shownIn, Span}

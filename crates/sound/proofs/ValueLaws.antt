@@ -18,7 +18,7 @@ use Rattle.paper.specs.Writing.{digitsOf, decimal, goodSlot}
 use Rattle.paper.proofs.Small.{no}
 use Rattle.paper.proofs.Rooms.{digits-most}
 use Rattle.fields.specs.Places.{fieldAt, fieldFlaw}
-use Rattle.fields.proofs.RuleLaws.{part-is, part-some}
+use Rattle.room.proofs.Parts.{part-is, part-some}
 use Rattle.sound.specs.Judged.{goodValue, fineSpan}
 
 -- ---- trailing spaces

@@ -4,7 +4,8 @@ use mathlib.Core.Path.{_≡_, sym, ap, _∙_}
 use lib.Seq.{slice}
 use Rattle.paper.specs.Rules.{keeps}
 use Rattle.fields.specs.Places.{fieldAt}
-use Rattle.fields.proofs.RuleLaws.{flaw-missing, flaw-absent, flaw-kept, flaw-broken, part-is, part-empty, part-some}
+use Rattle.fields.proofs.RuleLaws.{flaw-missing, flaw-absent, flaw-kept, flaw-broken}
+use Rattle.room.proofs.Parts.{part-is, part-empty, part-some}
 use borrow.Author.Needs.{needs}
 use Rattle.fields.proofs.rules.value_flaw.Statement.{statement}
 use Rattle.fields.proofs.rules.value_flaw.Tie as tie

@@ -6,7 +6,7 @@ use Prim.Native.Nat.{_+_, _*_, _-_, _≤_, _<_}
 use native.Mathlib.Omega.{arith}
 use lib.ListN.{length, getD}
 use borrow.Author.Needs.{needs}
-use Rattle.fields.proofs.RuleLaws.{part-is}
+use Rattle.room.proofs.Parts.{part-is}
 use lib.Seq.{slice, length-slice}
 use Rattle.quick.proofs.CodedLaws.{Coding, count-low, coding-none, coding-lay, coding-odd, coding-done}
 use Rattle.quick.proofs.coded.coded_value.Statement.{statement}

@@ -10,7 +10,7 @@ use Rattle.paper.specs.Bytes.{isLetter}
 use Rattle.paper.specs.Grammar.{Quote}
 use Rattle.paper.specs.Fields.{fieldsOf}
 use Rattle.fields.specs.Places.{kindAt, placeIn}
-use Rattle.fields.proofs.RuleLaws.{part-is}
+use Rattle.room.proofs.Parts.{part-is}
 use borrow.Author.Tests.{not-false}
 use borrow.Author.Needs.{needs}
 use Rattle.quick.proofs.PassedLaws.{in-it, no-nought, begins, attr-derives}

@@ -5,7 +5,8 @@ use lib.Seq.{slice}
 use borrow.Author.Tests.{le-leb}
 use Rattle.paper.specs.Lists.{count}
 use Rattle.fields.specs.Places.{formed, fieldAt}
-use Rattle.fields.proofs.RuleLaws.{keeps-by, part-is}
+use Rattle.fields.proofs.RuleLaws.{keeps-by}
+use Rattle.room.proofs.Parts.{part-is}
 use borrow.Author.Needs.{needs}
 use Rattle.quick.proofs.value.keeps_text.Statement.{statement}
 use Rattle.quick.proofs.value.keeps_text.Tie as tie

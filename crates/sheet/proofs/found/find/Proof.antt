@@ -11,7 +11,7 @@ use borrow.Author.Needs.{needs}
 use Rattle.markup.specs.Walk.{insideAt, firstOf, Inner}
 use Rattle.markup.specs.declared.walk.Piece.the-variants.{Attribute}
 use Rattle.fields.specs.Places.{kindAt, placeIn}
-use Rattle.fields.proofs.RuleLaws.{part-is}
+use Rattle.room.proofs.Parts.{part-is}
 use Rattle.sheet.proofs.FoundLaws.{Held, at-start, at-stop, at-unknown, at-twice, at-next, few-fields}
 use Rattle.sheet.proofs.found.find.Statement.{statement}
 use Rattle.sheet.proofs.found.find.Tie as tie

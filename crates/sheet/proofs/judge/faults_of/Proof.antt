@@ -16,7 +16,7 @@ use Rattle.markup.specs.declared.walk.Mark.{Mark}
 use Rattle.markup.specs.declared.walk.Mark.the-variants.{Start, End, Nothing}
 use Rattle.fields.specs.Places.{kindAt}
 use Rattle.fields.specs.Columns.{keyColumn, limitColumn}
-use Rattle.fields.proofs.RuleLaws.{part-is}
+use Rattle.room.proofs.Parts.{part-is}
 use Rattle.sheet.specs.Fold.{St, given, kindUnder, barred, strange, opened, judgeFold, foldPage}
 use Rattle.sheet.specs.Judged.{stOf, left, Sound, verdictBy}
 use Rattle.sheet.specs.declared.state.State.{State}

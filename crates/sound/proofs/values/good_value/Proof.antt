@@ -14,7 +14,8 @@ use Rattle.paper.specs.Values.{cut}
 use Rattle.paper.specs.Fields.{Rule}
 use Rattle.paper.specs.Rules.{isZero}
 use Rattle.fields.specs.Places.{ruleAt, fieldAt, fieldFlaw}
-use Rattle.fields.proofs.RuleLaws.{rule-back, part-is, part-empty, part-some}
+use Rattle.fields.proofs.RuleLaws.{rule-back}
+use Rattle.room.proofs.Parts.{part-is, part-empty, part-some}
 use Rattle.sound.specs.Judged.{goodValue}
 use Rattle.sound.proofs.ValueLaws.{value-absent, value-present, flawed}
 use borrow.Author.Needs.{needs}
