@@ -10,13 +10,14 @@ use lib.Dec.{eqb, leb}
 use lib.ListN.{length, getD, replicate}
 use borrow.Author.Tests.{leb-true}
 use Rattle.paper.specs.Lists.{bytes, if, isEmpty}
-use Rattle.paper.specs.Fields.{Kind, unknown, MP, P, A, O, S, M, W, R, X, is}
+use Rattle.paper.specs.Fields.{Kind, M, is}
 use Rattle.paper.specs.Plan.{Row, scheme, freeText, unstated, timed, doseFrom}
 use Rattle.paper.specs.Layout.{Span, shown}
 use Rattle.paper.specs.Cells.{CellField, name, form, morning, midday, evening, night, freeDose, substance, strength, Cell, cell, noCell, ofW, cutTo, ownOr, timeCell, freeCell, ofThree, cellOf, cellIn}
 use Rattle.paper.proofs.Small.{both, if-same}
 use Rattle.paper.proofs.Told.{is-eq}
 use Rattle.paper.proofs.CellLaws.{RowAt, cell-row, no-other-row}
+use Rattle.paper.proofs.ByKind.{alike}
 use Rattle.plan.specs.Numbers.{recordAt, spanIn, spansOf, kindShown, rowWith, absent, within, codeSpan, paperSpan}
 use Rattle.plan.specs.Records.{noSpan, codeSpanIn, codeKind, textsIn, rowIn, doseIn}
 use Rattle.plan.specs.Records as R
@@ -160,16 +161,7 @@ field-told t k l freeDose = rw (dose-is l, dosed t l) (free-told t k (spanIn l 3
 
 -- a row is a medication for the code exactly if it is for document 01
 is-medication : (j : Kind) → isMedication (codeKind j) ≡ is j M
-is-medication unknown = refl
-is-medication MP = refl
-is-medication P = refl
-is-medication A = refl
-is-medication O = refl
-is-medication S = refl
-is-medication M = refl
-is-medication W = refl
-is-medication R = refl
-is-medication X = refl
+is-medication j = alike (λ j. isMedication (codeKind j)) (λ j. is j M) refl j
 
 -- the row that a medication's record stands for
 pub for-medication : (t l : List ℕ) → kindShown (getD l 0 0) ≡ M → rowFor t l ≡ medication t l

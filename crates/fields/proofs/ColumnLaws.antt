@@ -12,8 +12,8 @@ use mir.Syntax.{w64}
 use mir.Val.{Fits}
 use borrow.Author.Tests.{eqb-true, leb-true}
 use Rattle.paper.specs.Lists.{same, every}
-use Rattle.paper.specs.Fields.{Kind, unknown, MP, P, A, O, S, M, W, R, X, code, Field, table, fieldsOf, tagName, excluded}
-use Rattle.paper.proofs.Small.{both, below-at, same-eq}
+use Rattle.paper.specs.Fields.{Kind, code, Field, table, fieldsOf, tagName, excluded}
+use Rattle.paper.proofs.Small.{both, below-at, same-eq, every-at}
 use Rattle.fields.specs.Places.{kindAt, ruleNumber, noField, fieldAt, firstOf, countOf, under, onesOf, othersOf, keyOf}
 use Rattle.fields.specs.Columns.{bit, packed, entryOf, limitOf, partOf, keyColumn, limitColumn, firstColumn, countColumn, childKeyColumn, childKindColumn, childFirstColumn, childCountColumn, oneColumn, otherColumn, pairFirstColumn, pairCountColumn}
 
@@ -24,12 +24,6 @@ getD-of : {A : Type 0} (f : A → ℕ) (l : List A) (i : ℕ) (d : A) → i < le
 getD-of f [] i d h = absurd (omega arith)
 getD-of f (x ∷ l) zero d h = refl
 getD-of f (x ∷ l) (suc i) d h = getD-of f l i d (omega arith)
-
--- what every entry of a list passes, the one at a place does
-every-at : {A : Type 0} (t : A → Bool) (l : List A) (d : A) (i : ℕ) → every t l ≡ true → i < length l → t (getD l i d) ≡ true
-every-at t [] d i e h = absurd (omega arith)
-every-at t (x ∷ l) d zero e h = both (t x) (every t l) e .0
-every-at t (x ∷ l) d (suc i) e h = every-at t l d i (both (t x) (every t l) e .1) (omega arith)
 
 -- the entries of a column of bytes
 small-entry : (l : List ℕ) (i : ℕ) → every (λ (x : ℕ). leb x 255) l ≡ true → getD l i 0 ≤ 255
@@ -197,16 +191,3 @@ child-kinds p h = same-eq (take (getD childCountColumn p 0) (drop (getD childFir
 pub short-names : (p : ℕ) → p < 11 → every (λ (k : Kind). short (tagName k)) (under p) ≡ true
 unfolding under kindAt
 short-names p h = below-at 11 (λ (n : ℕ). every (λ (k : Kind). short (tagName k)) (under n)) refl p h
-
--- the numbers of the elements are below ten
-pub code-small : (k : Kind) → code k < 10
-code-small unknown = omega arith
-code-small MP = omega arith
-code-small P = omega arith
-code-small A = omega arith
-code-small O = omega arith
-code-small S = omega arith
-code-small M = omega arith
-code-small W = omega arith
-code-small R = omega arith
-code-small X = omega arith

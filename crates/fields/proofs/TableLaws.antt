@@ -10,9 +10,10 @@ use lib.ListN.{length, take, drop, getD}
 use lib.Seq.{getD-take, getD-drop}
 use borrow.Author.Tests.{eqb-true, lt-ltb, ltb-true, ltb-false, le-ltb}
 use Rattle.paper.specs.Lists.{if, same, elem}
-use Rattle.paper.specs.Fields.{Kind, unknown, MP, P, A, O, S, M, W, R, X, code, Field, table, fieldsOf}
+use Rattle.paper.specs.Fields.{Kind, code, Field, table, fieldsOf}
 use Rattle.paper.specs.Judging.{lettersOf}
 use Rattle.paper.proofs.Small.{below-at}
+use Rattle.paper.proofs.ByKind.{by-kind, kind-at}
 use Rattle.fields.specs.Places.{kindAt, noField, fieldAt, placeIn, firstOf, countOf, keyOf, nameOf}
 use Rattle.fields.proofs.NameLaws.{name-back}
 use Rattle.fields.proofs.ColumnLaws.{short}
@@ -44,16 +45,7 @@ found-letters n (f ∷ fs) h = go (same n (f .letters)) refl h (found-letters n 
 -- the element of an element's number
 pub kind-back : (k : Kind) → kindAt (code k) ≡ k
 unfolding kindAt
-kind-back unknown = refl
-kind-back MP = refl
-kind-back P = refl
-kind-back A = refl
-kind-back O = refl
-kind-back S = refl
-kind-back M = refl
-kind-back W = refl
-kind-back R = refl
-kind-back X = refl
+kind-back k = kind-at k
 
 -- the number of a number's element
 pub code-back : (e : ℕ) → e < 10 → code (kindAt e) ≡ e
@@ -63,16 +55,8 @@ code-back e h = eqb-true (code (kindAt e)) e (below-at 10 (λ (n : ℕ). eqb (co
 -- an element's fields are a part of the table
 pub part-of-table : (k : Kind) → fieldsOf k ≡ take (countOf k) (drop (firstOf k) table)
 unfolding firstOf countOf fieldsOf
-part-of-table unknown = refl
-part-of-table MP = refl
-part-of-table P = refl
-part-of-table A = refl
-part-of-table O = refl
-part-of-table S = refl
-part-of-table M = refl
-part-of-table W = refl
-part-of-table R = refl
-part-of-table X = refl
+part-of-table k =
+    by-kind (λ k. fieldsOf k ≡ take (countOf k) (drop (firstOf k) table)) (refl, refl, refl, refl, refl, refl, refl, refl, refl, refl) k
 
 -- the field at a place of an element
 pub field-at : (k : Kind) (i : ℕ) → i < countOf k → getD (fieldsOf k) i noField ≡ fieldAt (firstOf k + i)

@@ -7,8 +7,8 @@ use Prim.Native.Nat.{ℕ, _+_, _*_, _^_, _/_, _%_}
 use lib.Dec.{eqb}
 use lib.ListN.{length, take}
 use Rattle.paper.specs.Lists.{concat}
-use Rattle.paper.specs.Fields.{Kind, code, Field, table, tagName, excluded}
-use Rattle.fields.specs.Places.{ruleNumber, kinds, keyOf, firstOf, countOf, under, onesOf, othersOf}
+use Rattle.paper.specs.Fields.{Kind, code, Field, table, tagName, excluded, kinds}
+use Rattle.fields.specs.Places.{ruleNumber, keyOf, firstOf, countOf, under, onesOf, othersOf}
 
 -- a truth value as a number
 abbrev pub bit : Bool → ℕ

@@ -1,4 +1,5 @@
--- Places: the numbers by which the code names elements, rules and fields. An element's number is paper's `code`, a field's is its place in the table.
+-- Places: the numbers by which the code names elements, rules and fields. An element's number is paper's `code`, its place in `kinds`; a field's is its place in the
+-- table.
 -- Assumes nothing.
 use mathlib.Core.Bool.{Bool, true, false, _&&_}
 use mathlib.Core.List.{List, [], _∷_, map}
@@ -6,14 +7,10 @@ use Prim.Native.Nat.{ℕ, zero, suc, _+_, _*_, _/_, _%_}
 use lib.Dec.{eqb, leb, ltb}
 use lib.ListN.{length, take, drop, getD}
 use Rattle.paper.specs.Lists.{if, same, isEmpty}
-use Rattle.paper.specs.Fields.{Kind, unknown, MP, P, A, O, S, M, W, R, X, is, Field, field, table, fieldsOf, children, excluded, Pair}
+use Rattle.paper.specs.Fields.{Kind, unknown, MP, P, A, O, S, M, W, R, X, is, Field, field, table, fieldsOf, children, excluded, Pair, kinds}
 use Rattle.paper.specs.Fields.{Rule, text, version, digits, hexes, language, pageNo, birthday, sex, insured, stamp, one, lines, pzn, code3, dose, sign}
 use Rattle.paper.specs.Rules.{obeys}
 use Rattle.paper.specs.Judging.{breaks}
-
--- the elements by their numbers
-abbrev pub kinds : List Kind
-kinds = unknown ∷ MP ∷ P ∷ A ∷ O ∷ S ∷ M ∷ W ∷ R ∷ X ∷ []
 
 -- the element of a number; a number of no element is that of an unknown one
 unfoldable pub kindAt : ℕ → Kind

@@ -10,7 +10,7 @@ use lib.ListN.{length, take, drop, getD, length-append}
 use lib.Seq.{take-at, drop-at}
 use borrow.Author.Tests.{leb-true}
 use Rattle.paper.specs.Lists.{if, concat}
-use Rattle.paper.specs.Fields.{Kind, unknown, MP, P, A, O, S, M, W, R, X, is}
+use Rattle.paper.specs.Fields.{Kind, M, is}
 use Rattle.paper.specs.Plan as Said
 use Rattle.paper.specs.Plan.{Row}
 use Rattle.paper.specs.Reading as Paper
@@ -20,6 +20,7 @@ use Rattle.paper.specs.Calls.{readAt, readCall, roomy, inside, pagesAt}
 use Rattle.paper.specs.Index.{Pair, pair, numberOf, holds, pairsFrom, sorted, indexOf, holdersFrom, holders, pairRoom}
 use Rattle.paper.proofs.Small.{both}
 use Rattle.paper.proofs.ReadSound.{read-sound}
+use Rattle.paper.proofs.ByKind.{alike}
 use Rattle.room.specs.Laid.{laid}
 use Rattle.plan.specs.Numbers.{kindShown, kindNumber, rowsLent, showRow, showRows, recordWith, rowNumbers, rowsNumbers, planRows}
 use Rattle.plan.proofs.Spans.{record-size}
@@ -47,16 +48,7 @@ tail-of {n} {m} {l} {k} e = ap (drop 1) e
 
 -- a kind's number stands for a medication exactly where the kind is one
 medication-shown : (k : Kind) → is (kindShown (kindNumber k)) M ≡ is k M
-medication-shown unknown = refl
-medication-shown MP = refl
-medication-shown P = refl
-medication-shown A = refl
-medication-shown O = refl
-medication-shown S = refl
-medication-shown M = refl
-medication-shown W = refl
-medication-shown R = refl
-medication-shown X = refl
+medication-shown k = alike (λ k. is (kindShown (kindNumber k)) M) (λ k. is k M) refl k
 
 -- the record of a row shows the row's number
 number-shown : (m : ℕ) (r : Row) → numberOf (showRow [] (rowNumbers m r)) ≡ numberOf r

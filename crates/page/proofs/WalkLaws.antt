@@ -3,19 +3,20 @@
 use mathlib.Core.Path.{_≡_, refl, sym, ap, _∙_, subst}
 use mathlib.Core.Bool.{Bool, true, false, not, _&&_}
 use mathlib.Core.List.{List, [], _∷_, _++_, append-nil}
-use Prim.Native.Nat.{ℕ, zero, suc, _+_, _*_, _-_, _≤_, _<_}
+use Prim.Native.Nat.{ℕ, suc, _+_, _*_, _-_, _≤_, _<_}
 use native.Mathlib.Omega.{arith}
 use lib.Dec.{eqb, leb, ltb}
 use lib.ListN.{length, take, drop, getD, length-append}
-use borrow.Author.Tests.{eq-eqb, ne-eqb, eqb-true, leb-true}
+use borrow.Author.Tests.{eq-eqb, ne-eqb, leb-true}
 use Rattle.paper.specs.Lists.{bytes, if, concat, number, isEmpty, same}
 use Rattle.paper.specs.Grammar.{Attr, Tag, start, end}
-use Rattle.paper.specs.Fields.{Kind, unknown, MP, P, A, O, S, M, W, R, X, code, is, Field, fieldsOf}
+use Rattle.paper.specs.Fields.{Kind, MP, P, S, M, W, is, Field, fieldsOf}
 use Rattle.paper.specs.Plan.{Slots, Row, Head, slot, blank, sameSlots, sameHead}
 use Rattle.paper.specs.Judging.{item, rowOf, broken, judge, sheet, tail, or}
 use Rattle.paper.specs.Layout.{rowValues}
 use Rattle.paper.proofs.Told.{is-eq}
 use Rattle.paper.proofs.Small.{below-at}
+use Rattle.paper.proofs.ByKind.{code-small}
 use Rattle.room.specs.Laid.{laid}
 use Rattle.markup.specs.Walk.{tagsAt}
 use Rattle.fields.specs.Places.{kindAt, countOf, fieldAt}
@@ -67,18 +68,6 @@ pub record Step (w x t : List ℕ) (i j : ℕ) (es : List Elem) : Type 0 where
   pub wide : getD t (i + 2) 0 ≡ i + 3 + 2 * countOf (kindAt (getD t i 0))
   pub high : getD t (i + 2) 0 ≤ j
   pub behind-it : Lies w x (length x) t (getD t (i + 2) 0) j rest
-
-code-small : (k : Kind) → code k < 10
-code-small unknown = omega arith
-code-small MP = omega arith
-code-small P = omega arith
-code-small A = omega arith
-code-small O = omega arith
-code-small S = omega arith
-code-small M = omega arith
-code-small W = omega arith
-code-small R = omega arith
-code-small X = omega arith
 
 count-is : (k : Kind) → length (fieldsOf k) ≡ countOf k
 unfolding countOf

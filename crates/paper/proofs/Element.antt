@@ -11,7 +11,8 @@ use Rattle.paper.proofs.Small.{no, both, neither, no-not, if-same, same
 use Rattle.paper.specs.Grammar.{Attr, Attrs, end, space, attr, Name, isNameByte, double}
 use Rattle.paper.specs.Values.{cut, value, escape}
 use Rattle.paper.proofs.ValueLaws.{value-escape, escaped-raw, escape-allowed}
-use Rattle.paper.specs.Fields.{Kind, unknown, MP, P, A, O, S, M, W, R, X, Field, fieldsOf, tagName, excluded, Rule, text, version, digits, hexes, language, pageNo, birthday, sex, insured, stamp, one, lines, pzn, code3, dose, sign}
+use Rattle.paper.proofs.ByKind.{each, none}
+use Rattle.paper.specs.Fields.{Kind, Field, fieldsOf, tagName, excluded, Rule, text, version, digits, hexes, language, pageNo, birthday, sex, insured, stamp, one, lines, pzn, code3, dose, sign}
 use Rattle.paper.specs.Rules.{keeps, isZero, settle, obeys}
 use Rattle.paper.specs.Plan.{Slots, namesOf}
 use Rattle.paper.specs.Judging.{names, found, slotsOf, lettersOf, broken, missing, clash, own, mpVersion, mpOver, mpHalf}
@@ -138,42 +139,15 @@ spelled-attrs (f ∷ fs) ((c ∷ v) ∷ vs) n g =
 
 pub distinct : (k : Kind) → twice (lettersOf (fieldsOf k)) ≡ false
 unfolding fieldsOf
-distinct unknown = refl
-distinct MP = refl
-distinct P = refl
-distinct A = refl
-distinct O = refl
-distinct S = refl
-distinct M = refl
-distinct W = refl
-distinct R = refl
-distinct X = refl
+distinct k = none (λ k. twice (lettersOf (fieldsOf k))) refl k
 
 pub lettered : (k : Kind) → every isName (lettersOf (fieldsOf k)) ≡ true
 unfolding fieldsOf
-lettered unknown = refl
-lettered MP = refl
-lettered P = refl
-lettered A = refl
-lettered O = refl
-lettered S = refl
-lettered M = refl
-lettered W = refl
-lettered R = refl
-lettered X = refl
+lettered k = each (λ k. every isName (lettersOf (fieldsOf k))) refl k
 
 pub known : (k : Kind) → every (λ n. elem n (lettersOf (fieldsOf k))) (lettersOf (fieldsOf k)) ≡ true
 unfolding fieldsOf
-known unknown = refl
-known MP = refl
-known P = refl
-known A = refl
-known O = refl
-known S = refl
-known M = refl
-known W = refl
-known R = refl
-known X = refl
+known k = each (λ k. every (λ n. elem n (lettersOf (fieldsOf k))) (lettersOf (fieldsOf k))) refl k
 
 -- ---- an element that is good has no faults, and its slots come back
 
@@ -221,28 +195,10 @@ attrs-in k vs g = spelled-attrs (fieldsOf k) vs (lettered k) (good-slots k vs g)
 
 pub allowed-letters : (k : Kind) → every (every isAllowed) (lettersOf (fieldsOf k)) ≡ true
 unfolding fieldsOf
-allowed-letters unknown = refl
-allowed-letters MP = refl
-allowed-letters P = refl
-allowed-letters A = refl
-allowed-letters O = refl
-allowed-letters S = refl
-allowed-letters M = refl
-allowed-letters W = refl
-allowed-letters R = refl
-allowed-letters X = refl
+allowed-letters k = each (λ k. every (every isAllowed) (lettersOf (fieldsOf k))) refl k
 
 pub allowed-tag : (k : Kind) → every isAllowed (tagName k) ≡ true
-allowed-tag unknown = refl
-allowed-tag MP = refl
-allowed-tag P = refl
-allowed-tag A = refl
-allowed-tag O = refl
-allowed-tag S = refl
-allowed-tag M = refl
-allowed-tag W = refl
-allowed-tag R = refl
-allowed-tag X = refl
+allowed-tag k = each (λ k. every isAllowed (tagName k)) refl k
 
 allowed-attrs : (fs : List Field) (vs : Slots) → every (every isAllowed) (lettersOf fs) ≡ true → goodSlots fs vs ≡ true → every isAllowed (printAttrs (attrsOf fs vs)) ≡ true
 allowed-attrs [] vs n g = refl

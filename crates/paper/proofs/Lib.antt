@@ -1,6 +1,7 @@
 -- The theorems about the definitions. What each file is for stands in its first line; docs/PROMISES.md leads from the demands to their names.
 pub mod Witness
 pub mod Small
+pub mod ByKind
 pub mod Table
 pub mod ValueLaws
 pub mod Taken

@@ -10,7 +10,7 @@ use lib.ListN.{length, drop}
 use borrow.Author.Tests.{eq-eqb, ne-eqb}
 use Rattle.paper.specs.Lists.{bytes, if, same, elem, twice, every, number}
 use Rattle.paper.specs.Bytes.{isDecoded}
-use Rattle.paper.specs.Fields.{Kind, unknown, MP, P, A, O, S, M, W, R, X, edition, Field, fieldsOf}
+use Rattle.paper.specs.Fields.{Kind, MP, P, A, O, S, M, W, R, X, edition, Field, fieldsOf}
 use Rattle.paper.specs.Plan.{Slots, Row, Head, Plan}
 use Rattle.paper.specs.Judging.{item, rowOf}
 use Rattle.paper.specs.Writing.{goodSlot, goodSlots, goodElement, digitsOf, decimal, soundHead, soundRow, sound, rowSlots}
@@ -20,6 +20,7 @@ use Rattle.paper.proofs.Element.{good-slots, good-whole, good-value}
 use Rattle.paper.proofs.Rows.{View, head, med, rec, free, AllSound, all-sound, back-one, decimal-back}
 use Rattle.paper.proofs.Sheets.{head-sound}
 use Rattle.paper.proofs.ReadSound.{pF, uF, lF, parts}
+use Rattle.paper.proofs.ByKind.{each, none}
 
 -- ---- lines are told apart by `=` and byte 10
 
@@ -134,16 +135,7 @@ slots-once k (f ∷ fs) (v ∷ vs) (u ∷ us) x y d l m o p e =
 
 distinct-keys : (k : Kind) → twice (keys k) ≡ false
 unfolding fieldsOf
-distinct-keys unknown = refl
-distinct-keys MP = refl
-distinct-keys P = refl
-distinct-keys A = refl
-distinct-keys O = refl
-distinct-keys S = refl
-distinct-keys M = refl
-distinct-keys W = refl
-distinct-keys R = refl
-distinct-keys X = refl
+distinct-keys k = none (λ k. twice (keys k)) refl k
 
 good-length : (fs : List Field) (vs : Slots) → goodSlots fs vs ≡ true → length vs ≡ length fs
 good-length [] [] g = refl
@@ -298,16 +290,7 @@ row-once {r} {q} v u x y o p e =
 
 keys-aside : (k : Kind) → (apart (keys k) (bytes "row" ∷ []) && apart (keys k) (bytes "rows" ∷ [])) ≡ true
 unfolding fieldsOf
-keys-aside unknown = refl
-keys-aside MP = refl
-keys-aside P = refl
-keys-aside A = refl
-keys-aside O = refl
-keys-aside S = refl
-keys-aside M = refl
-keys-aside W = refl
-keys-aside R = refl
-keys-aside X = refl
+keys-aside k = each (λ k. apart (keys k) (bytes "row" ∷ []) && apart (keys k) (bytes "rows" ∷ [])) refl k
 
 -- the rows and the row count, which the head's lines are followed by
 abbrev rowsAnd : List Row → List ℕ → List Line
@@ -430,16 +413,7 @@ fields-clean k (f ∷ fs) ((c ∷ v) ∷ vs) g h =
 
 keys-clean : (k : Kind) → every (every (isNot 61)) (keys k) ≡ true
 unfolding fieldsOf
-keys-clean unknown = refl
-keys-clean MP = refl
-keys-clean P = refl
-keys-clean A = refl
-keys-clean O = refl
-keys-clean S = refl
-keys-clean M = refl
-keys-clean W = refl
-keys-clean R = refl
-keys-clean X = refl
+keys-clean k = each (λ k. every (every (isNot 61)) (keys k)) refl k
 
 element-clean : (k : Kind) (vs : Slots) → goodElement k vs ≡ true → Clean (elementLines k vs)
 element-clean k vs g = fields-clean (path k) (fieldsOf k) vs (keys-clean k) (slots-plain (fieldsOf k) vs (good-slots k vs g))
@@ -449,16 +423,7 @@ ws-clean [] g = tt
 ws-clean (w ∷ ws) g = let (a, b) = both (goodElement W w) (every (goodElement W) ws) g in clean-append (elementLines W w) (wLines ws) (element-clean W w a) (ws-clean ws b)
 
 mark-plain : (k : Kind) → every (isNot 10) (rowMark k) ≡ true
-mark-plain unknown = refl
-mark-plain MP = refl
-mark-plain P = refl
-mark-plain A = refl
-mark-plain O = refl
-mark-plain S = refl
-mark-plain M = refl
-mark-plain W = refl
-mark-plain R = refl
-mark-plain X = refl
+mark-plain k = each (λ k. every (isNot 10) (rowMark k)) refl k
 
 rows-clean : (rs : List Row) → AllSound rs → Clean (rowsLines rs)
 rows-clean [] a = tt

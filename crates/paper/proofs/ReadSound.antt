@@ -25,7 +25,7 @@ use Rattle.paper.specs.Reading.{refusal, plan, decide, judgeAll, read, r
 use Rattle.paper.specs.Writing.{goodSlot, goodSlots, goodElement, decimal, digitsOf, mpSlots, soundHead, soundRow, sound, noneOf}
 use Rattle.paper.proofs.Element.{good-slots}
 use Rattle.paper.proofs.Given.{append-nil-both}
-use Rattle.paper.proofs.Told.{ItemOk, ItemsOk, items-ok, both-there, found-any, Root, Bal, page-placed, started, frame-ok, nothing}
+use Rattle.paper.proofs.Told.{ItemOk, ItemsOk, items-ok, both-there, found-any, Root, Bal, page-placed, started, frame-ok, nothing, is-eq}
 use Rattle.paper.proofs.Canon.{canon, padded-zero}
 use Rattle.paper.proofs.AnyOrder.{isPlan, judged-each, each-judged, Each, Accept, accepts}
 
@@ -298,16 +298,7 @@ mp-sheet i l t g b f =
 
 root-sheet : (k : Kind) (i : ℕ) (l : List Attr) (t : List Tag) → is k MP ≡ true → goodElement k (slotsOf (fieldsOf k) l) ≡ true → Bal t 1 → faults (frame k i (slotsOf (fieldsOf k) l) ∷ []) t ≡ []
     → SheetOk (sheetOf ((if (early k) (item k (slotsOf (fieldsOf k) l) [] ∷ []) []) ++ items (frame k i (slotsOf (fieldsOf k) l) ∷ []) t))
-root-sheet MP i l t e g b f = mp-sheet i l t g b f
-root-sheet unknown i l t e g b f = no (sym e)
-root-sheet P i l t e g b f = no (sym e)
-root-sheet A i l t e g b f = no (sym e)
-root-sheet O i l t e g b f = no (sym e)
-root-sheet S i l t e g b f = no (sym e)
-root-sheet M i l t e g b f = no (sym e)
-root-sheet W i l t e g b f = no (sym e)
-root-sheet R i l t e g b f = no (sym e)
-root-sheet X i l t e g b f = no (sym e)
+root-sheet k i l t e = rw (is-eq k MP e) (mp-sheet i l t)
 
 -- an outermost element that is known is an MP
 pub root-mp : (n : List ℕ) → is (named n (MP ∷ [])) unknown ≡ false → is (named n (MP ∷ [])) MP ≡ true

@@ -7,6 +7,7 @@ use Prim.Native.Nat.{ℕ, zero, suc, _<_}
 use native.Mathlib.Omega.{arith}
 use lib.Bits.{bitOr, or-add-and, and-le-l, and-le-r}
 use lib.Dec.{eqb}
+use lib.ListN.{length, getD}
 use mir.Val.{boolByte}
 use borrow.Author.Tests.{eqb-true, eqb-false, eq-eqb, ne-eqb}
 use Rattle.paper.specs.Lists.{if, same, every, All}
@@ -78,6 +79,12 @@ every-append p (x ∷ s) t a b = let (c, d) = both (p x) (every p s) a in rw (c,
 pub every-all : (p : ℕ → Bool) (s : List ℕ) → every p s ≡ true → All (λ c. p c ≡ true) s
 every-all p [] e = tt
 every-all p (x ∷ s) e = let (c, d) = both (p x) (every p s) e in (c, every-all p s d)
+
+-- what every member of a list passes, the one at a place does
+pub every-at : {A : Type 0} (t : A → Bool) (l : List A) (d : A) (i : ℕ) → every t l ≡ true → i < length l → t (getD l i d) ≡ true
+every-at t [] d i e h = absurd (omega arith)
+every-at t (x ∷ l) d zero e h = both (t x) (every t l) e .0
+every-at t (x ∷ l) d (suc i) e h = every-at t l d i (both (t x) (every t l) e .1) (omega arith)
 
 pub and-intro : (a b : Bool) → a ≡ true → b ≡ true → a && b ≡ true
 and-intro a b e f = rw (e, f)

@@ -5,16 +5,17 @@ use mathlib.Core.List.{List, [], _∷_, _++_}
 use Prim.Native.Nat.{ℕ, zero, suc, _+_, _≤_}
 use native.Mathlib.Omega.{arith}
 use lib.Dec.{eqb, leb, ltb}
-use lib.ListN.{length, length-append}
+use lib.ListN.{length, length-append, getD}
 use borrow.Author.Tests.{eqb-true, eqb-false, eq-eqb, ne-eqb, leb-false}
 use Rattle.paper.specs.Lists.{bytes, if, every, isEmpty, some-of}
 use Rattle.paper.proofs.Small.{no, both, neither}
 use Rattle.paper.specs.Grammar.{Attr, Tag, start, end, Rest, Page, done, space, bare, full, close, placed}
-use Rattle.paper.specs.Fields.{Kind, unknown, MP, P, A, O, S, M, W, R, X, code, is, fieldsOf, later}
+use Rattle.paper.specs.Fields.{Kind, unknown, MP, P, A, S, M, W, code, is, fieldsOf, later, kinds}
 use Rattle.paper.specs.Plan.{Slots, slot, blank}
 use Rattle.paper.specs.Judging.{own, slotsOf, Frame, frame, Stack, kindIn, misplaced, howMany, enter, note, here, faults, lacks, Item, item, early, items, part}
 use Rattle.paper.specs.Writing.{goodElement, noneOf}
 use Rattle.paper.proofs.Given.{own-good, OwnFine, fault-nil, append-nil-both}
+use Rattle.paper.proofs.ByKind.{kind-at}
 
 -- ---- the tags close what they open, and nothing comes after
 
@@ -61,24 +62,8 @@ page-placed {t = t} L p = root-placed L t (page-root p)
 
 -- ---- kinds
 
-kind-of : ℕ → Kind
-kind-of n = if (eqb n 1) MP (if (eqb n 2) P (if (eqb n 3) A (if (eqb n 4) O (if (eqb n 5) S (if (eqb n 6) M (if (eqb n 7) W (if (eqb n 8) R (if (eqb n 9) X unknown))))))))
-
-kind-back : (k : Kind) → kind-of (code k) ≡ k
-unfolding kind-of
-kind-back unknown = refl
-kind-back MP = refl
-kind-back P = refl
-kind-back A = refl
-kind-back O = refl
-kind-back S = refl
-kind-back M = refl
-kind-back W = refl
-kind-back R = refl
-kind-back X = refl
-
 pub is-eq : (j k : Kind) → is j k ≡ true → j ≡ k
-is-eq j k e = sym (kind-back j) ∙ ap kind-of (eqb-true (code j) (code k) e) ∙ kind-back k
+is-eq j k e = sym (kind-at j) ∙ ap (λ n. getD kinds n unknown) (eqb-true (code j) (code k) e) ∙ kind-at k
 
 -- ---- frames and items
 

@@ -9,13 +9,14 @@ use lib.ListN.{length, length-append}
 use Rattle.paper.specs.Lists.{if, same, elem, twice}
 use Rattle.paper.specs.Grammar.{Attr, Tag, start, end, Attrs, space, attr, Name, Rest, Page, done, bare, full, close, placed}
 use Rattle.paper.specs.Values.{value}
-use Rattle.paper.specs.Fields.{Kind, unknown, MP, P, A, O, S, M, W, R, X, is, Field, fieldsOf}
+use Rattle.paper.specs.Fields.{Kind, M, W, is, Field, fieldsOf}
 use Rattle.paper.specs.Rules.{isZero, settle}
 use Rattle.paper.specs.Plan.{Slots}
 use Rattle.paper.specs.Judging.{found, slotsOf, lettersOf, Frame, frame, Stack, kindIn, note, enter, next, Item, item, early, says, items}
 use Rattle.paper.proofs.Small.{neither, same-eq}
 use Rattle.paper.proofs.ValueLaws.{value-short}
 use Rattle.paper.proofs.Element.{settled-nil, slots-skip, distinct}
+use Rattle.paper.proofs.ByKind.{by-kind}
 
 settle-short : (f : Field) (v : List ℕ) → length (settle f v) ≤ length v
 settle-short f v = at (isZero (f .rule) v)
@@ -140,16 +141,9 @@ noted F k vs = at (is (F .kind) M) (is k W)
 
 -- an element is said at its start, or held, or held by its parent
 once : (k : Kind) (i : ℕ) (vs : Slots) → itemsWeight (if (early k) (item k vs [] ∷ []) []) + held (frame k i vs) + added k vs ≤ elementWeight k vs
-once unknown i vs = omega arith
-once MP i vs = omega arith
-once P i vs = omega arith
-once A i vs = omega arith
-once O i vs = omega arith
-once S i vs = omega arith
-once M i vs = omega arith
-once W i vs = omega arith
-once R i vs = omega arith
-once X i vs = omega arith
+once k i vs =
+    by-kind (λ k. itemsWeight (if (early k) (item k vs [] ∷ []) []) + held (frame k i vs) + added k vs ≤ elementWeight k vs)
+    (omega arith, omega arith, omega arith, omega arith, omega arith, omega arith, omega arith, omega arith, omega arith, omega arith) k
 
 entered : (st : Stack) (k : Kind) (i : ℕ) (vs : Slots) → itemsWeight (if (early k) (item k vs [] ∷ []) []) + pending (enter st k i vs) ≤ pending st + elementWeight k vs
 entered [] k i vs = omega (arith, once k i vs)

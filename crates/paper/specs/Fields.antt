@@ -27,6 +27,10 @@ code X = 9
 abbrev pub is : Kind → Kind → Bool
 is a b = eqb (code a) (code b)
 
+-- all of them, by their numbers, the nine in writing order
+abbrev pub kinds : List Kind
+kinds = unknown ∷ MP ∷ P ∷ A ∷ O ∷ S ∷ M ∷ W ∷ R ∷ X ∷ []
+
 -- an element's name in its tags
 abbrev pub tagName : Kind → List ℕ
 tagName unknown = []

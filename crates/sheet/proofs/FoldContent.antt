@@ -21,6 +21,7 @@ use Rattle.paper.proofs.Small.{no}
 use Rattle.paper.proofs.Given.{fault-nil, append-nil-both}
 use Rattle.paper.proofs.Told.{Bal, Root, page-placed, is-eq, started}
 use Rattle.paper.proofs.ReadSound.{root-mp}
+use Rattle.paper.proofs.ByKind.{each}
 use Rattle.sheet.specs.Fold.{given, foldPage, answer}
 use Rattle.sheet.specs.Content.{kindNamed, attrsOfFirst, slotsFrom, partFrom, wsFrom, rowsFrom, headFrom, contentOf}
 use Rattle.sheet.proofs.Nesting.{Kid, asP, asA, asO, asS, asM, asR, asX, asW, box, Shape, top, in-it, shape-enter, shape-leave, alone, kid-of, known-name, root-shape}
@@ -30,16 +31,7 @@ use Rattle.sheet.proofs.FoldJudge.{after-last, fold-judge, fold-spotles
 
 own-name : (k : Kind) → kindNamed (tagName k) ≡ k
 unfolding kindNamed
-own-name unknown = refl
-own-name MP = refl
-own-name P = refl
-own-name A = refl
-own-name O = refl
-own-name S = refl
-own-name M = refl
-own-name W = refl
-own-name R = refl
-own-name X = refl
+own-name k = is-eq (kindNamed (tagName k)) k (each (λ k. is (kindNamed (tagName k)) k) refl k)
 
 -- a name that is known in its place has that kind wherever it stands
 pub kind-named : (n : List ℕ) (ks : List Kind) → is (named n ks) unknown ≡ false → kindNamed n ≡ named n ks

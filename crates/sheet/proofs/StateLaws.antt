@@ -8,8 +8,9 @@ use native.Mathlib.Omega.{arith}
 use lib.Dec.{eqb, leb}
 use borrow.Author.Tests.{eqb-true, ne-eqb, leb-false}
 use Rattle.paper.specs.Lists.{if}
-use Rattle.paper.specs.Fields.{Kind, unknown, MP, P, A, O, S, M, W, R, X, code, named}
+use Rattle.paper.specs.Fields.{Kind, code, named}
 use Rattle.paper.proofs.Small.{below-at}
+use Rattle.paper.proofs.ByKind.{by-kind}
 use Rattle.fields.specs.Places.{kindAt, rankOf, under}
 use Rattle.fields.proofs.TableLaws.{code-back}
 use Rattle.sheet.specs.Fold.{St, kidsOf, kindUnder, full, barred}
@@ -34,16 +35,7 @@ unfolding barred full
 barred-number s k h = by-code (kindAt k) ∙ ap (barredBy s) (code-back k h)
   where
     by-code : (j : Kind) → barred s j ≡ barredBy s (code j)
-    by-code unknown = refl
-    by-code MP = refl
-    by-code P = refl
-    by-code A = refl
-    by-code O = refl
-    by-code S = refl
-    by-code M = refl
-    by-code W = refl
-    by-code R = refl
-    by-code X = refl
+    by-code j = by-kind (λ j. barred s j ≡ barredBy s (code j)) (refl, refl, refl, refl, refl, refl, refl, refl, refl, refl) j
 
 -- a W that is not refused is at most the third
 pub fourth : (s : St) (k : ℕ) → barred s (kindAt k) ≡ false → k ≡ 7 → s .ws < 3

@@ -4,15 +4,16 @@
 use mathlib.Core.Option.{Option, none, some}
 use mathlib.Core.List.{List, [], _∷_, _++_}
 use Prim.Native.Nat.{ℕ}
+use lib.ListN.{drop}
 use Rattle.paper.specs.Lists.{bytes, if, number}
 use Rattle.paper.specs.Grammar.{Attr, Tag, start, end}
-use Rattle.paper.specs.Fields.{Kind, MP, P, A, O, S, M, W, R, X, is, fieldsOf, named}
+use Rattle.paper.specs.Fields.{Kind, MP, P, A, O, S, M, W, R, X, is, fieldsOf, named, kinds}
 use Rattle.paper.specs.Plan.{Slots, Head, Row, slot, blank}
 use Rattle.paper.specs.Judging.{slotsOf, item, rowOf, or, Sheet}
 
 -- the kind of a name, wherever it stands: the nine names are distinct
 unfoldable pub kindNamed : List ℕ → Kind
-kindNamed n = named n (MP ∷ P ∷ A ∷ O ∷ S ∷ M ∷ W ∷ R ∷ X ∷ [])
+kindNamed n = named n (drop 1 kinds)
 
 -- the attributes of the first start tag of that kind, if there is one
 unfoldable pub attrsOfFirst : Kind → List Tag → Option (List Attr)

@@ -18,6 +18,7 @@ use Rattle.paper.specs.Judging.{found, slotsOf, missing}
 use Rattle.paper.proofs.Small.{no, both}
 use Rattle.paper.proofs.Element.{distinct}
 use Rattle.paper.proofs.Weights.{slotWeight, slotsWeight, attrsSize, tag-weight}
+use Rattle.paper.proofs.ByKind.{equal}
 use Rattle.fields.specs.Places.{kindAt}
 use Rattle.sheet.specs.Fold.{St, kidsOf, kindUnder, full, barred, needsW, opened, closed, judgeFold}
 use Rattle.sheet.specs.Content.{kindNamed}
@@ -73,16 +74,7 @@ tenths X = 50
 
 tenths-are : (k : Kind) → 10 * (header + 2 * length (fieldsOf k)) ≡ tenths k
 unfolding fieldsOf
-tenths-are unknown = refl
-tenths-are MP = refl
-tenths-are P = refl
-tenths-are A = refl
-tenths-are O = refl
-tenths-are S = refl
-tenths-are M = refl
-tenths-are W = refl
-tenths-are R = refl
-tenths-are X = refl
+tenths-are k = equal (λ k. 10 * (header + 2 * length (fieldsOf k))) tenths refl k
 
 -- the kinds that have a field marked * and are wide
 mp-must : anyMust (fieldsOf MP) ≡ true

@@ -5,9 +5,10 @@ use Prim.Native.Nat.{_-_}
 use native.Mathlib.Omega.{arith}
 use borrow.Author.Needs.{needs}
 use Rattle.paper.specs.Fields.{named}
+use Rattle.paper.proofs.ByKind.{code-small}
 use Rattle.fields.specs.Places.{kindAt, under}
 use Rattle.fields.specs.Columns.{childKeyColumn, childKindColumn, childFirstColumn, childCountColumn}
-use Rattle.fields.proofs.ColumnLaws.{fits-entry, child-within, code-small}
+use Rattle.fields.proofs.ColumnLaws.{fits-entry, child-within}
 use Rattle.fields.proofs.FoundLaws.{child-found, child-none}
 use Rattle.fields.proofs.lookup.child.Statement.{statement}
 use Rattle.fields.proofs.lookup.child.Tie as tie

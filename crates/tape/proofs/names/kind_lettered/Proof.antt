@@ -10,9 +10,9 @@ use lib.ListN.{drop, getD}
 use lib.Seq.{drop-cons}
 use borrow.Author.Tests.{eq-eqb, ne-eqb}
 use Rattle.paper.specs.Lists.{bytes, if, same}
-use Rattle.paper.specs.Fields.{unknown, MP, code, tagName, named}
+use Rattle.paper.specs.Fields.{unknown, MP, code, tagName, named, kinds}
 use Rattle.paper.proofs.Small.{below-at, same-eq}
-use Rattle.fields.specs.Places.{kinds, kindAt}
+use Rattle.fields.specs.Places.{kindAt}
 use Rattle.fields.proofs.TableLaws.{code-back}
 use Rattle.sheet.specs.Content.{kindNamed}
 use borrow.Author.Needs.{needs}

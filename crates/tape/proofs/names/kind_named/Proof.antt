@@ -10,9 +10,8 @@ use lib.ListN.{length, drop, getD}
 use lib.Seq.{slice, slice-cons, slice-empty, length-slice}
 use borrow.Author.Tests.{eqb-true}
 use Rattle.paper.specs.Lists.{if, same, every}
-use Rattle.paper.specs.Fields.{Kind, unknown, code, tagName, named}
+use Rattle.paper.specs.Fields.{Kind, unknown, code, tagName, named, kinds}
 use Rattle.paper.proofs.Small.{both, same-eq}
-use Rattle.fields.specs.Places.{kinds}
 use Rattle.sheet.specs.Content.{kindNamed}
 use borrow.Author.Needs.{needs}
 use Rattle.tape.proofs.names.kind_named.Statement.{statement}
