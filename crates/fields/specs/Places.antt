@@ -7,7 +7,7 @@ use Prim.Native.Nat.{ℕ, zero, suc, _+_, _*_, _/_, _%_}
 use lib.Dec.{eqb, leb, ltb}
 use lib.ListN.{length, take, drop, getD}
 use Rattle.paper.specs.Lists.{if, same, isEmpty}
-use Rattle.paper.specs.Fields.{Kind, unknown, MP, P, A, O, S, M, W, R, X, is, Field, field, table, fieldsOf, children, excluded, Pair, kinds}
+use Rattle.paper.specs.Fields.{Kind, unknown, MP, is, Field, field, table, fieldsOf, children, excluded, Pair, kinds}
 use Rattle.paper.specs.Fields.{Rule, text, version, digits, hexes, language, pageNo, birthday, sex, insured, stamp, one, lines, pzn, code3, dose, sign}
 use Rattle.paper.specs.Rules.{obeys}
 use Rattle.paper.specs.Judging.{breaks}
@@ -80,19 +80,6 @@ fieldsFrom first n = take n (drop first table)
 -- what may stand under a parent of that number: number 10 is outside of all elements, where only MP stands
 unfoldable pub under : ℕ → List Kind
 under n = if (eqb n 10) (MP ∷ []) (children (kindAt n))
-
--- the order inside MP, counted from 1: P, A, O, S; 0 for an element that stands elsewhere
-abbrev pub rankOf : Kind → ℕ
-rankOf unknown = 0
-rankOf MP = 0
-rankOf P = 1
-rankOf A = 2
-rankOf O = 3
-rankOf S = 4
-rankOf M = 0
-rankOf W = 0
-rankOf R = 0
-rankOf X = 0
 
 -- of each two fields that exclude each other, the place of the one among its element's fields
 unfoldable pub onesOf : Kind → List ℕ

@@ -20,6 +20,7 @@ use Rattle.paper.specs.Writing as Wr
 use Rattle.paper.proofs.Element.{MpFine, name-of, good-slots}
 use Rattle.paper.proofs.Told.{nothing}
 use Rattle.paper.proofs.Fine.{Fine, Elem, fine-bare, fine-open, fine-close}
+use Rattle.paper.proofs.ByKind.{none}
 
 -- ---- what a sound row is, by its kind
 
@@ -201,6 +202,10 @@ fine-body (free us g) q L i js vs st ns x xs G =
     let E : Elem (sframe i js vs ∷ st) X us = record { named = refl; right = rw (never X js (λ j. refl)); good = g; mp = mp-no X us refl } in
     fine-bare L (sframe i js vs) st (tagName S) ns X us x xs (name-of (tagName X) refl) E refl (G (X ∷ js))
 
+-- no kind is later than S
+pub latest : (j : Kind) → later S j ≡ false
+latest j = none (later S) refl j
+
 -- P and A have been seen
 abbrev pub Present : List Kind → Type 0
 Present js = (eqb (howMany P js) 0 || eqb (howMany A js) 0) ≡ false
@@ -210,7 +215,7 @@ module _ (L at : ℕ) (mp : Slots) (x : List ℕ) (tail : (js : List Kind) → P
       → ((i : ℕ) → Fine L (sframe i [] us ∷ mpframe at (S ∷ js) mp ∷ []) (tagName S ∷ tagName MP ∷ []) y xs)
       → Fine L (mpframe at js mp ∷ []) (tagName MP ∷ []) (opening S us y) (item S us [] ∷ xs)
   section js h us g y xs G =
-      let E : Elem (mpframe at js mp ∷ []) S us = record { named = refl; right = rw (never S js (λ j. refl)); good = g; mp = mp-no S us refl } in
+      let E : Elem (mpframe at js mp ∷ []) S us = record { named = refl; right = rw (never S js latest); good = g; mp = mp-no S us refl } in
       fine-open L (mpframe at js mp) [] (tagName MP) [] S us y xs (name-of (tagName S) refl) E G
 
   fine-open-rows : (rs : List Row) → AllSound rs → (js : List Kind) → Present js → (i : ℕ) (ks : List Kind) (vs : Slots)

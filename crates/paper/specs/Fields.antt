@@ -1,9 +1,9 @@
--- Fields: document 01, "Elements and fields". The nine elements, and the one table of 52 fields in writing order.
+-- Fields: document 01, "Elements and fields". The table of the nine elements, and the one table of 52 fields in writing order.
 -- Assumes nothing.
-use mathlib.Core.Bool.{Bool, true, false, _||_}
+use mathlib.Core.Bool.{Bool, true, false, _&&_}
 use mathlib.Core.List.{List, [], _∷_, _++_}
 use Prim.Native.Nat.{ℕ}
-use lib.Dec.{eqb}
+use lib.Dec.{eqb, ltb}
 use Rattle.paper.specs.Lists.{bytes, if, same}
 
 -- the nine elements, and any other
@@ -31,18 +31,64 @@ is a b = eqb (code a) (code b)
 abbrev pub kinds : List Kind
 kinds = unknown ∷ MP ∷ P ∷ A ∷ O ∷ S ∷ M ∷ W ∷ R ∷ X ∷ []
 
+-- ---- the table of elements
+
+-- an element: its name in its tags, the element it stands in, how many of it may stand there (0 is any number), and its turn in the order there (0 is none)
+pub record Element : Type 0 where
+  pub name : List ℕ
+  pub parent : Kind
+  pub most : ℕ
+  pub rank : ℕ
+
+-- a line of the table
+abbrev pub element : List ℕ → Kind → ℕ → ℕ → Element
+element n p m r = record { name = n; parent = p; most = m; rank = r }
+
+-- "Order inside MP: P, A, then at most one O, then any number of S. S holds M, R and X in any order. M holds up to three W."
+-- The outermost element, MP, stands in none.
+abbrev pub about : Kind → Element
+about unknown = element [] unknown 0 0
+about MP = element (bytes "MP") unknown 0 0
+about P = element (bytes "P") MP 1 1
+about A = element (bytes "A") MP 1 2
+about O = element (bytes "O") MP 1 3
+about S = element (bytes "S") MP 0 4
+about M = element (bytes "M") S 0 0
+about W = element (bytes "W") M 3 0
+about R = element (bytes "R") S 0 0
+about X = element (bytes "X") S 0 0
+
 -- an element's name in its tags
 abbrev pub tagName : Kind → List ℕ
-tagName unknown = []
-tagName MP = bytes "MP"
-tagName P = bytes "P"
-tagName A = bytes "A"
-tagName O = bytes "O"
-tagName S = bytes "S"
-tagName M = bytes "M"
-tagName W = bytes "W"
-tagName R = bytes "R"
-tagName X = bytes "X"
+tagName k = about k .name
+
+-- the kind of that name among these
+abbrev pub named : List ℕ → List Kind → Kind
+named n [] = unknown
+named n (k ∷ ks) = if (same n (tagName k)) k (named n ks)
+
+-- those of these kinds that stand in that element
+abbrev pub heldBy : Kind → List Kind → List Kind
+heldBy k [] = []
+heldBy k (j ∷ js) = if (is (about j .parent) k) (j ∷ heldBy k js) (heldBy k js)
+
+-- what an element may hold; an unknown one holds nothing
+abbrev pub children : Kind → List Kind
+children k = if (is k unknown) [] (heldBy k kinds)
+
+-- how many of a kind its parent may have (0 is any number)
+abbrev pub most-of : Kind → ℕ
+most-of k = about k .most
+
+-- a kind's turn in the order inside its parent (0 is none)
+abbrev pub rankOf : Kind → ℕ
+rankOf k = about k .rank
+
+-- "Within MP an element is misplaced when it comes after one of a later kind": the kinds that are later than an element's own
+abbrev pub later : Kind → Kind → Bool
+later j k = ltb 0 (rankOf j) && ltb (rankOf j) (rankOf k)
+
+-- ---- the table of fields
 
 -- "v* \"027\"": the edition that is read and written
 abbrev pub edition : List ℕ
@@ -144,47 +190,3 @@ excluded M = (bytes "f", bytes "fd") ∷ (bytes "m", bytes "t") ∷ (bytes "d", 
 excluded W = []
 excluded R = []
 excluded X = []
-
--- the kind of that name among these
-abbrev pub named : List ℕ → List Kind → Kind
-named n [] = unknown
-named n (k ∷ ks) = if (same n (tagName k)) k (named n ks)
-
--- what an element may hold: "S holds M, R and X in any order. M holds up to three W."
-abbrev pub children : Kind → List Kind
-children unknown = []
-children MP = P ∷ A ∷ O ∷ S ∷ []
-children P = []
-children A = []
-children O = []
-children S = M ∷ R ∷ X ∷ []
-children M = W ∷ []
-children W = []
-children R = []
-children X = []
-
--- how many of a kind its parent may have (0 is any number): one P, one A, "at most one O", "up to three W"
-abbrev pub most-of : Kind → ℕ
-most-of unknown = 0
-most-of MP = 0
-most-of P = 1
-most-of A = 1
-most-of O = 1
-most-of S = 0
-most-of M = 0
-most-of W = 3
-most-of R = 0
-most-of X = 0
-
--- "Order inside MP: P, A, then at most one O, then any number of S": the kinds that are later than an element's own
-abbrev pub later : Kind → Kind → Bool
-later P k = is k A || is k O || is k S
-later A k = is k O || is k S
-later O k = is k S
-later unknown k = false
-later MP k = false
-later S k = false
-later M k = false
-later W k = false
-later R k = false
-later X k = false

@@ -3,8 +3,8 @@
 use mathlib.Core.List.{List, [], _∷_, _++_}
 use Prim.Native.Nat.{ℕ, zero, suc}
 use lib.ListN.{length, take}
-use Rattle.paper.specs.Lists.{bytes}
-use Rattle.paper.specs.Fields.{Kind, unknown, MP, P, A, O, S, M, W, R, X, edition, Field, fieldsOf}
+use Rattle.paper.specs.Lists.{bytes, if}
+use Rattle.paper.specs.Fields.{Kind, unknown, MP, P, A, O, S, M, W, R, X, is, about, tagName, edition, Field, fieldsOf}
 use Rattle.paper.specs.Plan.{Slots, Head, Row, Plan}
 use Rattle.paper.specs.Reading.{Answer, refusal, plan, read}
 use Rattle.paper.specs.Writing.{digitsOf, decimal, rowSlots}
@@ -18,18 +18,14 @@ pub record Line : Type 0 where
 abbrev pub line : List ℕ → List ℕ → Line
 line k v = record { key = k; value = v }
 
--- what stands before a field's letters in its key
+-- the names of an element and of those around it, the outermost first, a "." behind each; at most n of them
+abbrev pub pathOf : ℕ → Kind → List ℕ
+pathOf zero k = []
+pathOf (suc n) k = if (is k unknown) [] (pathOf n (about k .parent) ++ (tagName k ++ bytes "."))
+
+-- what stands before a field's letters in its key: at most four names, "MP.S.M.W."
 abbrev pub path : Kind → List ℕ
-path unknown = []
-path MP = bytes "MP."
-path P = bytes "MP.P."
-path A = bytes "MP.A."
-path O = bytes "MP.O."
-path S = bytes "MP.S."
-path M = bytes "MP.S.M."
-path W = bytes "MP.S.M.W."
-path R = bytes "MP.S.R."
-path X = bytes "MP.S.X."
+path k = pathOf 4 k
 
 -- a line for each present value, in writing order
 abbrev pub fieldLines : List ℕ → List Field → Slots → List Line

@@ -9,7 +9,7 @@ use lib.Dec.{eqb}
 use lib.ListN.{length, getD, take, drop, length-drop}
 use lib.Seq.{slice}
 use borrow.Author.Tests.{eqb-true}
-use Rattle.paper.specs.Lists.{if, until}
+use Rattle.paper.specs.Lists.{until}
 use Rattle.paper.specs.Bytes.{isSpace}
 use Rattle.paper.specs.Grammar.{Attr, Tag, start, end, Rest, Name, placed}
 use Rattle.paper.specs.Fields.{Kind, code, fieldsOf}
@@ -31,7 +31,7 @@ use Rattle.quick.proofs.TagLaws.{behind, byte-at, letter-at, opens, shu
 
 -- the element around, as the state tells it
 pub parents : (c : ℕ) → c < 10 → parent c ≡ parentOf c
-unfolding parent
+unfolding parent kindAt
 parents c h = eqb-true (parent c) (parentOf c) (below-at 10 (λ (n : ℕ). eqb (parent n) (parentOf n)) refl c h)
 
 -- the place of a tag by what stands from it on

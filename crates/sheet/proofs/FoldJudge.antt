@@ -13,14 +13,15 @@ use borrow.Author.Tests.{ne-eqb, le-leb, leb-false, leb-true}
 use Rattle.paper.specs.Lists.{bytes, if, same, every, some-of}
 use Rattle.paper.specs.Bytes.{isAllowed}
 use Rattle.paper.specs.Grammar.{Attr, Tag, start, end, Page, placed}
-use Rattle.paper.specs.Fields.{Kind, unknown, MP, P, A, O, S, M, W, R, X, code, is, fieldsOf, named, later}
+use Rattle.paper.specs.Fields.{Kind, unknown, MP, P, A, O, S, M, W, R, X, code, is, fieldsOf, named, later, rankOf}
 use Rattle.paper.specs.Plan.{Slots}
 use Rattle.paper.specs.Judging.{Fault, fault, names, slotsOf, mpVersion, Frame, frame, Stack, kindIn, howMany, misplaced, note, next, lacks, faults, items, Item, lower, least, sheetOf, verdict, judge}
 use Rattle.paper.proofs.Small.{neither}
 use Rattle.paper.proofs.Least.{judged-by-tags}
 use Rattle.paper.proofs.Told.{Bal, Root, page-placed, is-eq}
 use Rattle.paper.proofs.ReadSound.{root-mp}
-use Rattle.fields.specs.Places.{rankOf}
+use Rattle.paper.proofs.Rows.{latest}
+use Rattle.fields.specs.Places.{kindAt}
 use Rattle.sheet.specs.Fold.{given, spotless, St, outside, kidsOf, kindUnder, parent, full, barred, strange, amiss, unfit, flaw, needsW, opened, closed, finished, judgeFold, foldPage, answer}
 use Rattle.sheet.proofs.FoundLaws.{or-true}
 use Rattle.sheet.proofs.Nesting.{Kid, asP, asA, asO, asS, asM, asR, asX, asW, box, Shape, top, in-it, shape-enter, shape-leave, alone, kid-of, kids-top, root-shape}
@@ -156,7 +157,7 @@ full-is t F st k c sh H = at (F .kind) k (F .at) (F .seen) (F .slots) (F .ws) st
     at MP P j js vs us st asP sh H = sym (head-mp t j js vs us st sh H .0 .order P oneP)
     at MP A j js vs us st asA sh H = sym (head-mp t j js vs us st sh H .0 .order A oneA)
     at MP O j js vs us st asO sh H = sym (head-mp t j js vs us st sh H .0 .order O oneO)
-    at MP S j js vs us st asS sh H = rw (never S (λ i. refl) js)
+    at MP S j js vs us st asS sh H = rw (never S latest js)
     at S M j js vs us st asM sh H = rw (never M (λ i. refl) js)
     at S R j js vs us st asR sh H = rw (never R (λ i. refl) js)
     at S X j js vs us st asX sh H = rw (never X (λ i. refl) js)
@@ -217,7 +218,7 @@ record Left (t : St) (F G : Frame) (st : Stack) : Type 0 where
 
 -- the numbers behind the end tag of an element that stands in another
 leaves : (t : St) (F G : Frame) (st : Stack) → Shape (F ∷ G ∷ st) → Sim t F (G ∷ st) → Left t F G st
-unfolding closed parent needsW
+unfolding closed parent kindAt needsW
 leaves t F G st sh H = at F G sh H
   where
     -- an element that waits for nothing

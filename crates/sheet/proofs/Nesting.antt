@@ -109,7 +109,7 @@ known-name n (k ∷ ks) e = at (same n (tagName k)) refl e (known-name n ks)
 
 kids-known : (K : Kind) → is K unknown ≡ false → kidsOf (code K) ≡ children K
 unfolding kidsOf
-kids-known K e = rw (e, kind-back K)
+kids-known K e = rw (kind-back K, e)
 
 -- the code of the innermost open element says what may stand in it
 pub kids-top : (F : Frame) (st : Stack) → Shape (F ∷ st) → kidsOf (code (F .kind)) ≡ children (F .kind)

@@ -8,12 +8,12 @@ use native.Mathlib.Omega.{arith}
 use lib.Dec.{eqb, leb}
 use borrow.Author.Tests.{eqb-true, ne-eqb, leb-false}
 use Rattle.paper.specs.Lists.{if}
-use Rattle.paper.specs.Fields.{Kind, code, named}
+use Rattle.paper.specs.Fields.{Kind, code, named, rankOf}
 use Rattle.paper.proofs.Small.{below-at}
 use Rattle.paper.proofs.ByKind.{by-kind}
-use Rattle.fields.specs.Places.{kindAt, rankOf, under}
+use Rattle.fields.specs.Places.{kindAt, under}
 use Rattle.fields.proofs.TableLaws.{code-back}
-use Rattle.sheet.specs.Fold.{St, kidsOf, kindUnder, full, barred}
+use Rattle.sheet.specs.Fold.{St, kidsOf, kindUnder, full, barred, parent}
 
 -- what may stand in the innermost open element, by the table
 pub kids-under : (c : ℕ) (n : List ℕ) → c < 10 → (c ≡ 0 → ⊥) → kindUnder c n ≡ named n (under c)
@@ -45,3 +45,8 @@ fourth s k b e = leb-false 3 (s .ws) (sym (barred-number s 7 (omega arith)) ∙ 
 pub rank-number : (k : ℕ) → k < 10 → rankOf (kindAt k) ≡ if (leb 2 k && leb k 5) (k - 1) 0
 unfolding kindAt
 rank-number k h = eqb-true (rankOf (kindAt k)) (if (leb 2 k && leb k 5) (k - 1) 0) (below-at 10 (λ n. eqb (rankOf (kindAt n)) (if (leb 2 n && leb n 5) (n - 1) 0)) refl k h)
+
+-- the element around an element by its number
+pub parent-number : (k : ℕ) → k < 10 → parent k ≡ if (leb k 1) 0 (if (leb k 5) 1 (if (eqb k 7) 6 5))
+unfolding parent kindAt
+parent-number k h = eqb-true (parent k) (if (leb k 1) 0 (if (leb k 5) 1 (if (eqb k 7) 6 5))) (below-at 10 (λ n. eqb (parent n) (if (leb n 1) 0 (if (leb n 5) 1 (if (eqb n 7) 6 5)))) refl k h)

@@ -4,13 +4,13 @@
 use mathlib.Core.Bool.{Bool, false, not, _&&_, _||_}
 use mathlib.Core.List.{List, [], _∷_}
 use Prim.Native.Nat.{ℕ, suc}
-use lib.Dec.{eqb, leb}
+use lib.Dec.{eqb, leb, ltb}
 use Rattle.paper.specs.Lists.{bytes, if, isEmpty, elem, twice, every}
 use Rattle.paper.specs.Grammar.{Attr, Tag, start, end}
-use Rattle.paper.specs.Fields.{Kind, unknown, MP, P, A, O, S, M, W, R, X, code, is, fieldsOf, excluded, named, children}
+use Rattle.paper.specs.Fields.{Kind, unknown, MP, P, A, O, S, M, W, code, is, fieldsOf, excluded, named, children, rankOf, about, most-of}
 use Rattle.paper.specs.Plan.{Slots, slot}
 use Rattle.paper.specs.Judging.{Fault, names, slotsOf, lettersOf, broken, missing, clash, mpVersion, mpOver, mpHalf, lower, Sheet, Judged, refused, sheet}
-use Rattle.fields.specs.Places.{kindAt, rankOf}
+use Rattle.fields.specs.Places.{kindAt}
 
 -- a fault by its number and its place
 abbrev pub given : ℕ → ℕ → Fault
@@ -51,22 +51,13 @@ kidsOf c = if (eqb c 0) (MP ∷ []) (children (kindAt c))
 unfoldable pub kindUnder : ℕ → List ℕ → Kind
 kindUnder c n = named n (kidsOf c)
 
--- the code of the element around: known elements stand in one kind of element only
+-- the code of the element around; 0 outside of all
 unfoldable pub parent : ℕ → ℕ
-parent c = if (leb c 1) 0 (if (leb c 5) 1 (if (eqb c 7) 6 5))
+parent c = code (about (kindAt c) .parent)
 
--- misplaced or too many: a P, A or O after one of its own or a later kind, a fourth W
+-- misplaced or too many, of a kind that is limited in number: a W behind as many as its M may have, a P, A or O behind one of its own or a later kind
 unfoldable pub full : St → Kind → Bool
-full s unknown = false
-full s MP = false
-full s P = leb 1 (s .rank)
-full s A = leb 2 (s .rank)
-full s O = leb 3 (s .rank)
-full s S = false
-full s M = false
-full s W = leb 3 (s .ws)
-full s R = false
-full s X = false
+full s k = ltb 0 (most-of k) && if (is k W) (leb (most-of k) (s .ws)) (leb (rankOf k) (s .rank))
 
 -- refusal 5 of an element: unknown, misplaced or too many
 unfoldable pub barred : St → Kind → Bool

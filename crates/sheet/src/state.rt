@@ -5,10 +5,10 @@ ghost use mathlib.Core.List.{List};
 ghost use Prim.Native.Nat.{suc, _≤_, _<_};
 ghost use lib.Dec.{eqb};
 ghost use Rattle.paper.specs.Lists.{if};
-ghost use Rattle.paper.specs.Fields.{code, fieldsOf};
+ghost use Rattle.paper.specs.Fields.{code, rankOf, fieldsOf};
 ghost use Rattle.paper.specs.Grammar.{Attr};
 ghost use Rattle.paper.specs.Judging.{names, slotsOf, lower};
-ghost use Rattle.fields.specs.Places.{kindAt, rankOf};
+ghost use Rattle.fields.specs.Places.{kindAt};
 ghost use Rattle.sheet.specs.Fold.{outside, kindUnder, parent, barred, flaw, needsW, opened, closed, finished};
 ghost use Rattle.sheet.specs.Judged.{faultOf, stOf, Sound, left};
 use fields::lookup::child;
@@ -212,6 +212,7 @@ fn open(st: State, kind: u8, place: u16, number: u8, needs: bool) -> State
 
 // The element around an element.
 fn parent_of(kind: u8) -> u8
+    requires { ⌜ kind < 10 ⌝ }
     ensures { λ r. ⌜ (r ≡ parent kind) × (r < 10) ⌝ }
 {
     if kind <= MP {

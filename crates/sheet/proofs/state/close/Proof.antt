@@ -6,7 +6,7 @@ use Rattle.sheet.proofs.state.close.Statement.{statement}
 use Rattle.sheet.proofs.state.close.Tie as tie
 
 parent-of-requires : tie.Need-parent-of-requires
-parent-of-requires c κs = search needs
+parent-of-requires c κs = c .pre .known
 
 best-behind-requires : tie.Need-best-behind-requires
 best-behind-requires c κs = search needs
