@@ -37,12 +37,12 @@ fits-entry l i e = omega (arith, small-entry l i e)
 
 -- the letters of a field
 pub letters-at : (id : ℕ) → id < 52 → getD keyColumn id 0 ≡ keyOf (fieldAt id .letters)
-unfolding keyColumn fieldAt
+unfolding keyColumn fieldAt fieldsOf
 letters-at id h = getD-of (λ (f : Field). keyOf (f .letters)) table id noField h
 
 -- number k of a field's limits is what the field says there, by one computed test
 limit-by : (g : Field → ℕ) (k : ℕ) → every (λ (f : Field). eqb (partOf (limitOf f) k) (g f)) table ≡ true → (id : ℕ) → id < 52 → partOf (getD limitColumn id 0) k ≡ g (fieldAt id)
-unfolding limitColumn fieldAt
+unfolding limitColumn fieldAt fieldsOf
 limit-by g k e id h = ap (λ (n : ℕ). partOf n k) (getD-of limitOf table id noField h) ∙ eqb-true _ _ (every-at (λ (f : Field). eqb (partOf (limitOf f) k) (g f)) table noField id e h)
 
 -- the same in limits that a caller hands down
@@ -51,26 +51,31 @@ handed k l id x e f = ap (λ (s : List ℕ). partOf (getD s id 0) k) e ∙ f
 
 -- its rule
 pub rule-at : (id : ℕ) → id < 52 → partOf (getD limitColumn id 0) 0 ≡ ruleNumber (fieldAt id .rule)
+unfolding fieldsOf
 rule-at = limit-by (λ (f : Field). ruleNumber (f .rule)) 0 refl
 
 pub rule-small : (id : ℕ) → id < 52 → ruleNumber (fieldAt id .rule) ≤ 255
-unfolding fieldAt
+unfolding fieldAt fieldsOf
 rule-small id h = leb-true _ 255 (every-at (λ (f : Field). leb (ruleNumber (f .rule)) 255) table noField id refl h)
 
 -- its least length
 pub least-at : (id : ℕ) → id < 52 → partOf (getD limitColumn id 0) 1 ≡ fieldAt id .least
+unfolding fieldsOf
 least-at = limit-by (λ (f : Field). f .least) 1 refl
 
 -- its greatest length
 pub most-at : (id : ℕ) → id < 52 → partOf (getD limitColumn id 0) 2 ≡ fieldAt id .most
+unfolding fieldsOf
 most-at = limit-by (λ (f : Field). f .most) 2 refl
 
 -- how many line breaks it may have
 pub tilde-at : (id : ℕ) → id < 52 → partOf (getD limitColumn id 0) 3 ≡ fieldAt id .tildes
+unfolding fieldsOf
 tilde-at = limit-by (λ (f : Field). f .tildes) 3 refl
 
 -- whether it must be present
 pub must-at : (id : ℕ) → id < 52 → partOf (getD limitColumn id 0) 4 ≡ bit (fieldAt id .must)
+unfolding fieldsOf
 must-at = limit-by (λ (f : Field). bit (f .must)) 4 refl
 
 -- the number of a truth value is 1 just for the true one
@@ -82,7 +87,7 @@ bit-one false = refl
 
 -- the place of an element's first field
 pub first-at : (e : ℕ) → e < 10 → entryOf (packed firstColumn) e ≡ firstOf (kindAt e)
-unfolding firstColumn firstOf kindAt
+unfolding firstColumn firstOf kindAt fieldsOf
 first-at e h = eqb-true (entryOf (packed firstColumn) e) (firstOf (kindAt e)) (below-at 10 (λ (n : ℕ). eqb (entryOf (packed firstColumn) n) (firstOf (kindAt n))) refl e h)
 
 -- how many fields an element has
@@ -141,7 +146,7 @@ part-within e h = leb-true (firstOf (kindAt e) + countOf (kindAt e)) 52 (below-a
 
 -- the column of keys is as long as the table
 pub key-length : length keyColumn ≡ 52
-unfolding keyColumn
+unfolding keyColumn fieldsOf
 key-length = refl
 
 -- the key of a field

@@ -60,7 +60,7 @@ part-of-table k =
 
 -- the field at a place of an element
 pub field-at : (k : Kind) (i : ℕ) → i < countOf k → getD (fieldsOf k) i noField ≡ fieldAt (firstOf k + i)
-unfolding fieldAt
+unfolding fieldAt fieldsOf
 field-at k i h =
     ap (λ (l : List Field). getD l i noField) (part-of-table k)
     ∙ getD-take (countOf k) (drop (firstOf k) table) i noField h
@@ -69,7 +69,7 @@ field-at k i h =
 -- ---- names from keys
 
 short-at : (id : ℕ) → id < 52 → short (fieldAt id .letters) ≡ true
-unfolding fieldAt
+unfolding fieldAt fieldsOf
 short-at id h = below-at 52 (λ (n : ℕ). short (fieldAt n .letters)) refl id h
 
 -- the letters of a field, back from their key

@@ -9,7 +9,7 @@ use native.Mathlib.Omega.{arith}
 use lib.ListN.{length, take, drop, getD, length-take, length-drop}
 use lib.Seq.{drop-cons}
 use Rattle.paper.specs.Lists.{every}
-use Rattle.paper.specs.Fields.{Field, table}
+use Rattle.paper.specs.Fields.{Field, table, fieldsOf}
 use Rattle.paper.specs.Plan.{Slots}
 use Rattle.paper.specs.Layout.{shown, shownAll}
 use Rattle.paper.specs.Listing.{Line, line, print, fieldLines}
@@ -52,7 +52,7 @@ fields-step k f fs (c ∷ v) vs = refl
 
 lines-step : (path t l : List ℕ) (first n k : ℕ) → first < 52
     → linesOf path first (suc n) t k l ≡ given (path ++ fieldAt first .letters) (shown t (spanAt l k)) ++ linesOf path (suc first) n t (suc (suc k)) l
-unfolding fieldsFrom spansAt fieldAt
+unfolding fieldsFrom spansAt fieldAt fieldsOf
 lines-step path t l first n k h =
     ap (λ (fs : List Field). fieldLines path (take (suc n) fs) (shown t (spanAt l k) ∷ shownAll t (spansAt n (suc (suc k)) l))) (drop-cons table first noField h)
     ∙ fields-step path (getD table first noField) (take n (drop (suc first) table)) (shown t (spanAt l k)) (shownAll t (spansAt n (suc (suc k)) l))
@@ -73,7 +73,7 @@ next-field path t l first n k i h j =
 
 -- nothing is left behind the last field
 pub no-field : (path t l : List ℕ) (first n k i : ℕ) → n ≤ i → left path first n t k l i ≡ []
-unfolding fieldsFrom
+unfolding fieldsFrom fieldsOf
 no-field path t l first n k i h = let a : n - i ≡ 0 = omega arith in rw a
 
 -- the span at a place lies within the text, and so do those behind it

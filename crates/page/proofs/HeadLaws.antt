@@ -148,7 +148,7 @@ unfolding fieldsOf
 mp-long = refl
 
 mp-first : firstOf MP ≡ 0
-unfolding firstOf
+unfolding firstOf fieldsOf
 mp-first = refl
 
 mp-field : (j : ℕ) → j < 6 → getD (fieldsOf MP) j noField ≡ fieldAt j

@@ -1,10 +1,10 @@
--- Fields: document 01, "Elements and fields". The table of the nine elements, and the one table of 52 fields in writing order.
+-- Fields: document 01, "Elements and fields". The table of the nine elements, the fields of each in writing order, and the one table of all 52 fields.
 -- Assumes nothing.
 use mathlib.Core.Bool.{Bool, true, false, _&&_}
-use mathlib.Core.List.{List, [], _∷_, _++_}
+use mathlib.Core.List.{List, [], _∷_, map}
 use Prim.Native.Nat.{ℕ}
 use lib.Dec.{eqb, ltb}
-use Rattle.paper.specs.Lists.{bytes, if, same}
+use Rattle.paper.specs.Lists.{bytes, if, same, concat}
 
 -- the nine elements, and any other
 pub data Kind : Type 0 where
@@ -112,67 +112,36 @@ pub record Field : Type 0 where
 abbrev pub field : Kind → List ℕ → Rule → ℕ → ℕ → ℕ → Bool → Field
 field e n r a b t m = record { element = e; letters = n; rule = r; least = a; most = b; tildes = t; must = m }
 
--- MP
-abbrev pub mpFields : List Field
-mpFields =
+-- the fields of an element, in writing order. Of O.w document 01 has "1–3 digits", source 000 in 6.2.2 "max. 5 Zeichen"; lengths are the source's, so w
+-- has 1 to 5.
+unfoldable pub fieldsOf : Kind → List Field
+fieldsOf unknown = []
+fieldsOf MP =
     field MP (bytes "v") version 3 3 0 true ∷ field MP (bytes "p") digits 1 2 0 false ∷ field MP (bytes "U") hexes 32 32 0 true
     ∷ field MP (bytes "l") language 5 5 0 false ∷ field MP (bytes "a") pageNo 1 1 0 false ∷ field MP (bytes "z") pageNo 1 1 0 false ∷ []
-
--- P
-abbrev pub pFields : List Field
-pFields =
+fieldsOf P =
     field P (bytes "g") text 1 45 0 true ∷ field P (bytes "f") text 1 45 0 true ∷ field P (bytes "b") birthday 8 8 0 true ∷ field P (bytes "s") sex 1 1 0 false
     ∷ field P (bytes "egk") insured 10 10 0 false ∷ field P (bytes "t") text 1 20 0 false ∷ field P (bytes "v") text 1 20 0 false ∷ field P (bytes "z") text 1 20 0 false ∷ []
-
--- A
-abbrev pub aFields : List Field
-aFields =
+fieldsOf A =
     field A (bytes "lanr") digits 9 9 0 false ∷ field A (bytes "idf") digits 7 7 0 false ∷ field A (bytes "kik") digits 9 9 0 false ∷ field A (bytes "n") text 1 50 0 true
     ∷ field A (bytes "s") text 1 30 0 false ∷ field A (bytes "z") digits 5 5 0 false ∷ field A (bytes "c") text 1 20 0 false ∷ field A (bytes "p") text 1 20 0 false
     ∷ field A (bytes "e") text 1 40 0 false ∷ field A (bytes "t") stamp 19 19 0 true ∷ []
-
--- O. Of w document 01 has "1–3 digits", source 000 in 6.2.2 "max. 5 Zeichen"; lengths are the source's, so w has 1 to 5.
-abbrev pub oFields : List Field
-oFields =
+fieldsOf O =
     field O (bytes "ai") text 1 50 0 false ∷ field O (bytes "w") digits 1 5 0 false ∷ field O (bytes "h") digits 1 3 0 false ∷ field O (bytes "c") text 1 5 0 false
     ∷ field O (bytes "p") one 1 1 0 false ∷ field O (bytes "b") one 1 1 0 false ∷ field O (bytes "x") lines 1 77 2 false ∷ []
-
--- S
-abbrev pub sFields : List Field
-sFields = field S (bytes "c") digits 3 3 0 false ∷ field S (bytes "t") text 1 50 0 false ∷ []
-
--- M
-abbrev pub mFields : List Field
-mFields =
+fieldsOf S = field S (bytes "c") digits 3 3 0 false ∷ field S (bytes "t") text 1 50 0 false ∷ []
+fieldsOf M =
     field M (bytes "p") pzn 1 8 0 false ∷ field M (bytes "a") text 1 50 0 false ∷ field M (bytes "f") code3 3 3 0 false ∷ field M (bytes "fd") text 1 7 0 false
     ∷ field M (bytes "m") dose 1 4 0 false ∷ field M (bytes "d") dose 1 4 0 false ∷ field M (bytes "v") dose 1 4 0 false ∷ field M (bytes "h") dose 1 4 0 false
     ∷ field M (bytes "t") text 1 20 0 false ∷ field M (bytes "du") sign 1 1 0 false ∷ field M (bytes "dud") text 2 20 0 false
     ∷ field M (bytes "i") text 1 80 1 false ∷ field M (bytes "r") text 1 50 1 false ∷ field M (bytes "x") text 1 200 1 false ∷ []
+fieldsOf W = field W (bytes "w") text 1 80 0 true ∷ field W (bytes "s") text 1 15 0 false ∷ []
+fieldsOf R = field R (bytes "t") text 1 200 1 true ∷ field R (bytes "x") text 1 200 1 false ∷ []
+fieldsOf X = field X (bytes "t") text 1 200 1 true ∷ []
 
--- W
-abbrev pub wFields : List Field
-wFields = field W (bytes "w") text 1 80 0 true ∷ field W (bytes "s") text 1 15 0 false ∷ []
-
--- R
-abbrev pub rFields : List Field
-rFields = field R (bytes "t") text 1 200 1 true ∷ field R (bytes "x") text 1 200 1 false ∷ []
-
--- X
-abbrev pub xFields : List Field
-xFields = field X (bytes "t") text 1 200 1 true ∷ []
-
--- the one table, in writing order
+-- the one table: the fields of all elements, in writing order
 abbrev pub table : List Field
-table = mpFields ++ (pFields ++ (aFields ++ (oFields ++ (sFields ++ (mFields ++ (wFields ++ (rFields ++ xFields)))))))
-
--- the lines of one element
-abbrev pub only : Kind → List Field → List Field
-only k [] = []
-only k (f ∷ fs) = if (is (f .element) k) (f ∷ only k fs) (only k fs)
-
--- the fields of an element, in writing order
-unfoldable pub fieldsOf : Kind → List Field
-fieldsOf k = only k table
+table = concat (map fieldsOf kinds)
 
 -- two fields that exclude each other
 abbrev pub Pair : Type 0

@@ -117,7 +117,7 @@ next-field fs first n h = rw (drop-cons fs first noField h)
 pub fields-are : (t l : List ℕ) (first n j : ℕ) → first + n ≤ 52
     → fineFrom t first n j l ≡ (every (within (length t)) (spansIn n j l)
     && (goodSlots (take n (drop first table)) (shownAll t (spansIn n j l)) && not (missing (take n (drop first table)) (shownAll t (spansIn n j l)))))
-unfolding fineFrom spansIn fieldAt
+unfolding fineFrom spansIn fieldAt fieldsOf
 fields-are t l first zero j h = refl
 fields-are t l first (suc n) j h =
     let s : Span = spanIn l j in

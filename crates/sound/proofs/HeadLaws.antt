@@ -46,7 +46,7 @@ spans-back (s ∷ ss) = ap (λ (r : List Span). s ∷ r) (shift (length ss) 0 (s
 
 -- a patch keeps its field
 patch-good : (n : ℕ) → n < 100 → goodSlot (fieldAt 1) (decimal n) ≡ true
-unfolding fieldAt
+unfolding fieldAt fieldsOf
 patch-good n h = below-at 100 (λ (k : ℕ). goodSlot (fieldAt 1) (decimal k)) refl n h
 
 -- MP is good by U and l: the edition, the patch, a and z are

@@ -10,7 +10,7 @@ use lib.ListN.{length, take, drop, getD}
 use lib.Seq.{slice, take-at}
 use borrow.Author.Tests.{eq-eqb, ne-eqb, le-leb, lt-leb}
 use Rattle.paper.specs.Lists.{if, same, isEmpty}
-use Rattle.paper.specs.Fields.{Field}
+use Rattle.paper.specs.Fields.{Field, fieldsOf}
 use Rattle.paper.specs.Values.{keep, cut}
 use Rattle.paper.specs.Rules.{keeps, isZero}
 use Rattle.paper.specs.Layout.{Span}
@@ -134,7 +134,7 @@ decimal-empty (suc n) = some (ltb (suc n) 10) (digitsOf 8 (suc n / 10)) ∙ sym 
 
 -- the package number has no mark *
 pub no-mark : (v : List ℕ) → goodValue (fieldAt 33) v ≡ goodSlot (fieldAt 33) v
-unfolding fieldAt
+unfolding fieldAt fieldsOf
 no-mark v = go (goodSlot (fieldAt 33) v)
   where
     go : (b : Bool) → b && true ≡ b

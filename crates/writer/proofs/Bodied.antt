@@ -194,7 +194,7 @@ dose-spelled m d v h (c ∷ y) q = let (a, b, e, f) = q c y refl in rw (a, b, e,
 
 -- fields m, d, v, h and t with five values
 five-fields : (m d v h x : List ℕ) → printAttrs (attrsOf (fieldsFrom 37 5) (m ∷ d ∷ v ∷ h ∷ x ∷ [])) ≡ fiveText m d v h x
-unfolding fieldsFrom
+unfolding fieldsFrom fieldsOf
 five-fields m d v h x = attrs-are (fieldsFrom 37 5) (m ∷ d ∷ v ∷ h ∷ x ∷ [])
 
 -- value j of a record
@@ -246,7 +246,7 @@ dose-inside t l w = pick (eqb (spanIn l 7 .len) 0) (absent (spanIn l 3) && (abse
 -- the letters of the fields of a dose
 pub dose-names : (keys : List ℕ) → keys ≡ keyColumn
     → (nameOf (getD keys 37 0) ≡ bytes "m") × (nameOf (getD keys 38 0) ≡ bytes "d") × (nameOf (getD keys 39 0) ≡ bytes "v") × (nameOf (getD keys 40 0) ≡ bytes "h") × (nameOf (getD keys 41 0) ≡ bytes "t")
-unfolding fieldAt
+unfolding fieldAt fieldsOf
 dose-names keys e = (key-name keys 37 e (omega arith), key-name keys 38 e (omega arith), key-name keys 39 e (omega arith), key-name keys 40 e (omega arith), key-name keys 41 e (omega arith))
 
 -- the times of a dose that lies in the text

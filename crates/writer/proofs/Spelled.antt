@@ -12,7 +12,7 @@ use lib.ListN.{length, take, drop, getD, set, length-take, length-drop, length-a
 use lib.Seq.{slice, drop-cons, drop-drop, take-at, length-take-le, drop-append-add}
 use borrow.Author.Tests.{ne-eqb, ltb-true}
 use Rattle.paper.specs.Lists.{bytes, if, every}
-use Rattle.paper.specs.Fields.{Field, table}
+use Rattle.paper.specs.Fields.{Field, table, fieldsOf}
 use Rattle.paper.specs.Values.{esc, escape}
 use Rattle.paper.specs.Plan.{Slots}
 use Rattle.paper.specs.Layout.{Span, shown, shownAll}
@@ -157,14 +157,14 @@ attrs-are (f ∷ fs) (v ∷ vs) = attrs-step f fs v vs ∙ ap (λ (z : List ℕ)
 
 -- and so for fields of the table
 pub fields-step : (t l : List ℕ) (first n k : ℕ) → first < 52 → fieldsText first (suc n) t k l ≡ attribute (fieldAt first .letters) (shown t (spanAt l k)) ++ fieldsText (suc first) n t (suc (suc k)) l
-unfolding fieldsText fieldsFrom spansAt fieldAt
+unfolding fieldsText fieldsFrom spansAt fieldAt fieldsOf
 fields-step t l first n k h =
     ap (λ (fs : List Field). printAttrs (attrsOf (take (suc n) fs) (shown t (spanAt l k) ∷ shownAll t (spansAt n (suc (suc k)) l)))) (drop-cons table first noField h)
     ∙ attrs-step (getD table first noField) (take n (drop (suc first) table)) (shown t (spanAt l k)) (shownAll t (spansAt n (suc (suc k)) l))
 
 -- no field has no attribute
 pub fields-none : (t l : List ℕ) (first k : ℕ) → fieldsText first 0 t k l ≡ []
-unfolding fieldsText fieldsFrom
+unfolding fieldsText fieldsFrom fieldsOf
 fields-none t l first k = refl
 
 -- fields in two parts

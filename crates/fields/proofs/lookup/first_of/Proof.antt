@@ -2,6 +2,7 @@
 -- Assumes nothing.
 use mathlib.Core.Path.{_∙_}
 use borrow.Author.Needs.{needs}
+use Rattle.paper.specs.Fields.{fieldsOf}
 use Rattle.fields.specs.Places.{firstOf}
 use Rattle.fields.specs.Columns.{firstColumn}
 use Rattle.fields.proofs.ColumnLaws.{first-at}
@@ -12,7 +13,7 @@ entry-requires : tie.Need-entry-requires
 entry-requires c κs = search needs
 
 returns : tie.Need-returns
-unfolding firstColumn firstOf
+unfolding firstColumn firstOf fieldsOf
 returns c = c .entry .ensures ∙ first-at (c .before .args .element) (search needs)
 
 pub first-of-spec : {M : Type 1} → statement M

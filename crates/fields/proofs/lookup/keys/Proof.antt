@@ -2,12 +2,13 @@
 -- Assumes nothing.
 use mathlib.Core.Path.{refl}
 use Prim.Native.Nat.{_-_}
+use Rattle.paper.specs.Fields.{fieldsOf}
 use Rattle.fields.specs.Columns.{keyColumn}
 use Rattle.fields.proofs.lookup.keys.Statement.{statement}
 use Rattle.fields.proofs.lookup.keys.Tie as tie
 
 returns : tie.Need-returns
-unfolding keyColumn
+unfolding keyColumn fieldsOf
 returns c = refl
 
 pub keys-spec : {M : Type 1} → statement M

@@ -2,6 +2,7 @@
 -- Assumes nothing.
 use Prim.Native.Nat.{_-_}
 use borrow.Author.Needs.{needs}
+use Rattle.paper.specs.Fields.{fieldsOf}
 use Rattle.fields.specs.Columns.{keyColumn}
 use Rattle.fields.proofs.ColumnLaws.{letters-at}
 use Rattle.fields.proofs.lookup.letters_of.Statement.{statement}
@@ -14,7 +15,7 @@ array-read-result : tie.Need-array-read-result
 array-read-result c = search needs
 
 returns : tie.Need-returns
-unfolding keyColumn
+unfolding keyColumn fieldsOf
 returns c = letters-at (c .args .id) (c .pre)
 
 pub letters-of-spec : {M : Type 1} → statement M

@@ -6,6 +6,7 @@ use Prim.Native.Nat.{ℕ, _+_, _≤_}
 use native.Mathlib.Omega.{arith}
 use lib.ListN.{length}
 use Rattle.paper.specs.Plan.{Head, Slots}
+use Rattle.paper.specs.Fields.{fieldsOf}
 use Rattle.markup.specs.Walk.{tagsAt}
 use Rattle.fields.specs.Places.{kindAt, fieldAt, countOf}
 use Rattle.sheet.specs.Content.{headFrom}
@@ -65,7 +66,7 @@ long₃ : (c : tie.After-lay-slots3) → length (c .lay-slots3 .last .1 .1 .1 .1
 long₃ c = c .lay-slots3 .kept .1 .1 .1 .1 .1 .1 .1 .0 ∙ long₂ (c .before .before .before .before .before .before .before)
 
 mp-number-requires : tie.Need-mp-number-requires
-unfolding fieldAt
+unfolding fieldAt fieldsOf
 mp-number-requires c κs = (c .before .before .before .before .pre .0 .mp-at, c .before .before .before .before .pre .1, omega arith, omega arith)
 
 slice-aggregate-language : tie.Need-slice-aggregate-language

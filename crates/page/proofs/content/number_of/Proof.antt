@@ -6,7 +6,7 @@ use Prim.Native.Nat.{ℕ}
 use native.Mathlib.Omega.{arith}
 use lib.ListN.{getD}
 use Rattle.paper.specs.Lists.{bytes, number}
-use Rattle.paper.specs.Fields.{MP}
+use Rattle.paper.specs.Fields.{MP, fieldsOf}
 use Rattle.paper.specs.Judging.{or}
 use Rattle.markup.specs.Walk.{tagsAt}
 use Rattle.fields.specs.Places.{fieldAt}
@@ -17,14 +17,14 @@ use Rattle.page.proofs.content.number_of.Tie as tie
 use borrow.Author.Needs.{needs}
 
 mp-number-requires : tie.Need-mp-number-requires
-unfolding fieldAt
+unfolding fieldAt fieldsOf
 mp-number-requires c κs = (c .before .before .before .pre .0, c .before .before .before .pre .1, omega arith, omega arith)
 
 or-one-requires : tie.Need-or-one-requires
 or-one-requires c κs = search needs
 
 returns : tie.Need-returns
-unfolding contentOf fieldAt
+unfolding contentOf fieldAt fieldsOf
 returns c =
     let S = c .before .before .before .before .before in
     let ts = tagsAt (S .args .page .now) 0 in

@@ -1,13 +1,13 @@
 -- `tape::pages::same_head` meets its contract: the parts decide, one after the other.
 -- Assumes nothing.
-use mathlib.Core.Path.{_≡_, refl, sym, ap, _∙_}
+use mathlib.Core.Path.{_≡_, sym, _∙_}
 use mathlib.Core.Bool.{Bool, true, false}
 use mathlib.Core.List.{List, [], _∷_}
 use Prim.Native.Nat.{ℕ, _+_}
 use native.Mathlib.Omega.{arith}
-use lib.ListN.{length}
 use Rattle.paper.specs.Lists.{same}
 use Rattle.paper.specs.Plan.{Head, sameSlots}
+use Rattle.paper.specs.Fields.{fieldsOf}
 use Rattle.paper.proofs.Small.{no-not}
 use Rattle.markup.specs.Walk.{tagsAt}
 use Rattle.fields.specs.Places.{kindAt, fieldAt, countOf}
@@ -53,11 +53,11 @@ unfolding headFrom kindAt
 measures-found c = let e = c .before .count-of3 .ensures .0 in c .same-slots4 .ensures ∙ slots-are _ _ _ _ (part-values (c .before .before .before .before .before .before .before .before .before .before .before .before .before .before .before .before .before .before .before .before .before .before .pre .2 .measures-at) _ e) (part-values (c .before .before .before .before .before .before .before .before .before .before .before .before .before .before .before .before .before .before .before .before .before .before .pre .0 .measures-at) _ e)
 
 mp-number-requires : tie.Need-mp-number-requires
-unfolding fieldAt
+unfolding fieldAt fieldsOf
 mp-number-requires c κs = (c .before .before .before .before .pre .2 .mp-at, c .before .before .before .before .pre .3, omega arith, omega arith)
 
 mp-number-requires-2 : tie.Need-mp-number-requires-2
-unfolding fieldAt
+unfolding fieldAt fieldsOf
 mp-number-requires-2 c κs = (c .before .before .before .before .before .pre .0 .mp-at, c .before .before .before .before .before .pre .1, omega arith, omega arith)
 
 returns : tie.Need-returns
