@@ -13,7 +13,7 @@ use Rattle.paper.specs.Lists.{if}
 use Rattle.paper.specs.Plan.{Row}
 use Rattle.paper.specs.Layout.{Span, shown}
 use Rattle.paper.specs.Cells.{CellField, name, form, morning, midday, evening, night, freeDose, substance, strength, Cell, noCell, cellIn}
-use Rattle.plan.specs.Numbers.{recordAt, spanIn, spansOf, kindShown, rowWith, absent, within}
+use Rattle.plan.specs.Numbers.{recordAt, spanIn, spansOf, kindShown, rowWith, absent, within, stride}
 
 -- ---- what is asked for
 
@@ -24,7 +24,7 @@ fieldOf n i = if (eqb n 1) (some name) (if (eqb n 2) (some (substance i)) (if (e
 
 -- the row is there
 abbrev pub rowThere : List ℕ → ℕ → ℕ → Bool
-rowThere rows count row = leb 1 row && (leb row count && leb (row * 48) (length rows))
+rowThere rows count row = leb 1 row && (leb row count && leb (row * stride) (length rows))
 
 -- ---- the rows that numbers stand for
 
@@ -40,7 +40,7 @@ rowFor t l = rowWith (kindShown (getD l 0 0)) (getD l 1 0) (map (standsFor t) (s
 -- the rows that the first n records stand for
 abbrev pub rowsFor : List ℕ → ℕ → List ℕ → List Row
 rowsFor t zero rows = []
-rowsFor t (suc n) rows = rowFor t (take 48 rows) ∷ rowsFor t n (drop 48 rows)
+rowsFor t (suc n) rows = rowFor t (take stride rows) ∷ rowsFor t n (drop stride rows)
 
 -- ---- "a range outside its text": the range of the value asked for
 

@@ -9,9 +9,10 @@ use lib.ListN.{length, take, drop, getD, set, replicate}
 use Rattle.paper.specs.Lists.{if, same}
 use Rattle.paper.specs.Plan.{sameHead}
 use Rattle.paper.specs.Judging.{Sheet, Judged, refused, sheet, judge}
-use Rattle.paper.specs.Calls.{roomy}
+use Rattle.paper.specs.Calls.{roomy, pageRoom}
 use Rattle.paper.specs.Reading as Paper
 use Rattle.paper.specs.Collecting.{Added, added, alreadyHere, refusedWith}
+use Rattle.paper.specs.Sizes.{pageBytes}
 use Rattle.room.specs.Laid.{laid}
 use Rattle.plan.specs.Numbers.{rowsLent}
 use Rattle.reader.specs.Pages.{picked, firstOf}
@@ -21,13 +22,13 @@ use Rattle.collector.specs.declared.store.PageAt.the-variants.{Here, Mis
 
 -- the collector without any page
 abbrev pub emptyCollector : Collector
-emptyCollector = record { pages = replicate 12600 0; lens = replicate 9 0; z = 0; first = 0 }
+emptyCollector = record { pages = replicate pageRoom 0; lens = replicate 9 0; z = 0; first = 0 }
 
 -- ---- which pages are here
 
 -- the page of number n stands from here on
 abbrev pub startOf : ℕ → ℕ
-startOf n = (n - 1) * 1400
+startOf n = (n - 1) * pageBytes
 
 -- the length that is kept for number n
 abbrev pub lenOf : List ℕ → ℕ → ℕ
@@ -35,7 +36,7 @@ lenOf lens n = getD lens (n - 1) 0
 
 -- the page of number n is here: the number is one of 1 to 9, and the length is a page's
 unfoldable pub here : List ℕ → ℕ → Bool
-here lens n = leb 1 n && (leb n 9 && (leb 1 (lenOf lens n) && leb (lenOf lens n) 1400))
+here lens n = leb 1 n && (leb n 9 && (leb 1 (lenOf lens n) && leb (lenOf lens n) pageBytes))
 
 -- the page's place and length, or nothing
 unfoldable pub pageAt : List ℕ → ℕ → PageAt

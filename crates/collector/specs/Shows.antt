@@ -8,6 +8,7 @@ use Prim.Native.Nat.{ℕ}
 use lib.ListN.{length}
 use Rattle.paper.specs.Reading.{has}
 use Rattle.paper.specs.Collecting as Paper
+use Rattle.paper.specs.Calls.{pageRoom}
 use Rattle.collector.specs.Keeping.{here, kept, addedTo}
 use Rattle.collector.specs.Promise.{Promised}
 use Rattle.collector.specs.declared.store.Collector.{Collector}
@@ -25,7 +26,7 @@ firstIn (x ∷ k) = x .says .no
 
 -- each page of k is here at its number's place with its bytes, and no other; count and first page are those of k
 pub record Shows (c : Collector) (k : Paper.Collector) : Type 0 where
-  pub room : length (c .pages) ≡ 12600
+  pub room : length (c .pages) ≡ pageRoom
   pub nine : length (c .lens) ≡ 9
   pub pages-are : (n : ℕ) → here (c .lens) n ≡ has n (Paper.sheetsIn k)
   pub bytes-are : (n : ℕ) → has n (Paper.sheetsIn k) ≡ true → kept (c .pages) (c .lens) n ≡ Paper.bytesAt n k

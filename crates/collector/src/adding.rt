@@ -2,6 +2,7 @@
 ghost use mathlib.Core.Path.{_≡_};
 ghost use lib.ListN.{length};
 ghost use Rattle.paper.specs.Judging.{judge};
+ghost use Rattle.paper.specs.Calls.{pageRoom};
 ghost use Rattle.markup.specs.Walk.{tagsAt};
 ghost use Rattle.sheet.specs.Content.{contentOf};
 ghost use Rattle.tape.specs.Making.{IsSheet};
@@ -61,7 +62,7 @@ fn agrees<'a>(first: &'a [u8], page: &'a [u8]) -> bool
 
 // Whether a page has the head and the count of the collector's first page, or there is none yet.
 fn agrees_first<'a>(pages: &'a [u8], lens: [u16; 9], first: u8, page: &'a [u8]) -> bool
-    requires { ⌜ (length (now pages) ≡ 12600) × IsSheet (now page) ⌝ }
+    requires { ⌜ (length (now pages) ≡ pageRoom) × IsSheet (now page) ⌝ }
     ensures { λ r. ⌜ r ≡ agreesFirst (now (pages .entry)) lens first (contentOf (tagsAt (now (page .entry)) 0)) ⌝ }
 {
     let at = page_at(lens, first);

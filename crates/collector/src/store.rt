@@ -1,11 +1,12 @@
 // What a collector keeps: room for nine full pages, each page at its number's fixed place, and the length of each.
 ghost use mathlib.Core.Path.{_≡_};
 ghost use Rattle.collector.specs.Keeping.{emptyCollector, pageAt, countOf};
+use plan::Plan;
 
 // A collector by value. The page of number n stands from (n - 1) * 1,400 on.
 pub struct Collector {
     // The pages.
-    pub pages: [u8; 12600],
+    pub pages: [u8; Plan::PAGES],
     // The length of each page; 0 where it is not here.
     pub lens: [u16; 9],
     // How many pages there are, as they say; 0 where there is none yet.
@@ -24,14 +25,14 @@ impl Collector {
     // The most pages that a plan has.
     pub const PAGES: u8 = 9;
     // The bytes of a full page.
-    pub const PAGE: usize = 1400;
+    pub const PAGE: usize = Plan::PAGE;
 
     // The collector without any page.
     pub fn empty() -> Collector
         ensures { λ r. ⌜ r ≡ emptyCollector ⌝ }
     {
         Collector {
-            pages: [0; 12600],
+            pages: [0; Plan::PAGES],
             lens: [0; 9],
             z: 0,
             first: 0,

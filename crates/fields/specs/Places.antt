@@ -12,6 +12,13 @@ use Rattle.paper.specs.Fields.{Rule, text, version, digits, hexes, language, pa
 use Rattle.paper.specs.Rules.{obeys}
 use Rattle.paper.specs.Judging.{breaks}
 
+-- how many kinds of elements there are, and how many fields the table has
+abbrev pub kindCount : ℕ
+kindCount = length kinds
+
+abbrev pub fieldCount : ℕ
+fieldCount = length table
+
 -- the element of a number; a number of no element is that of an unknown one
 unfoldable pub kindAt : ℕ → Kind
 kindAt n = getD kinds n unknown

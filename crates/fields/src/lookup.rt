@@ -4,8 +4,9 @@ ghost use Prim.Native.Nat.{_+_, _-_, _<_, _≤_};
 ghost use lib.ListN.{length, take, drop, getD};
 ghost use Rattle.paper.specs.Lists.{until};
 ghost use Rattle.paper.specs.Fields.{code, named, fieldsOf, excluded};
-ghost use Rattle.fields.specs.Places.{kindAt, ruleNumber, fieldAt, placeIn, firstOf, countOf, under, onesOf, othersOf, keyOf, keyOrNone};
+ghost use Rattle.fields.specs.Places.{kindAt, ruleNumber, fieldAt, placeIn, firstOf, countOf, under, onesOf, othersOf, keyOf, keyOrNone, fieldCount, kindCount};
 ghost use Rattle.fields.specs.Columns.{other, entryOf, partOf, keyColumn, limitColumn};
+use crate::places::FIELDS;
 use crate::table::CHILD_COUNTS;
 use crate::table::CHILD_FIRSTS;
 use crate::table::CHILD_KEYS;
@@ -20,62 +21,62 @@ use crate::table::PAIR_ONES;
 use crate::table::PAIR_OTHERS;
 
 // The letters of all fields, as keys.
-pub fn keys() -> [u64; 52]
+pub fn keys() -> [u64; FIELDS]
     ensures { λ r. ⌜ r ≡ keyColumn ⌝ }
 {
     KEYS
 }
 
 // The limits of all fields.
-pub fn limits() -> [u64; 52]
+pub fn limits() -> [u64; FIELDS]
     ensures { λ r. ⌜ r ≡ limitColumn ⌝ }
 {
     LIMITS
 }
 
 // One of the five numbers in a field's limits.
-fn part(limits: &[u64; 52], id: usize, k: u64) -> usize
-    requires { ⌜ (id < 52) × (k < 5) ⌝ }
+fn part(limits: &[u64; FIELDS], id: usize, k: u64) -> usize
+    requires { ⌜ (id < fieldCount) × (k < 5) ⌝ }
     ensures { λ r. ⌜ r ≡ partOf (getD (now (limits .entry)) id 0) k ⌝ }
 {
     ((limits[id] >> (12 * k)) % 4096) as usize
 }
 
 // A field's rule.
-pub fn rule_in(limits: &[u64; 52], id: usize) -> u8
-    requires { ⌜ (now limits ≡ limitColumn) × (id < 52) ⌝ }
+pub fn rule_in(limits: &[u64; FIELDS], id: usize) -> u8
+    requires { ⌜ (now limits ≡ limitColumn) × (id < fieldCount) ⌝ }
     ensures { λ r. ⌜ r ≡ ruleNumber (fieldAt id .rule) ⌝ }
 {
     part(limits, id, 0) as u8
 }
 
 // Its least length.
-pub fn least_in(limits: &[u64; 52], id: usize) -> usize
-    requires { ⌜ (now limits ≡ limitColumn) × (id < 52) ⌝ }
+pub fn least_in(limits: &[u64; FIELDS], id: usize) -> usize
+    requires { ⌜ (now limits ≡ limitColumn) × (id < fieldCount) ⌝ }
     ensures { λ r. ⌜ r ≡ fieldAt id .least ⌝ }
 {
     part(limits, id, 1)
 }
 
 // Its greatest length.
-pub fn most_in(limits: &[u64; 52], id: usize) -> usize
-    requires { ⌜ (now limits ≡ limitColumn) × (id < 52) ⌝ }
+pub fn most_in(limits: &[u64; FIELDS], id: usize) -> usize
+    requires { ⌜ (now limits ≡ limitColumn) × (id < fieldCount) ⌝ }
     ensures { λ r. ⌜ r ≡ fieldAt id .most ⌝ }
 {
     part(limits, id, 2)
 }
 
 // How many line breaks it may have.
-pub fn tildes_in(limits: &[u64; 52], id: usize) -> usize
-    requires { ⌜ (now limits ≡ limitColumn) × (id < 52) ⌝ }
+pub fn tildes_in(limits: &[u64; FIELDS], id: usize) -> usize
+    requires { ⌜ (now limits ≡ limitColumn) × (id < fieldCount) ⌝ }
     ensures { λ r. ⌜ r ≡ fieldAt id .tildes ⌝ }
 {
     part(limits, id, 3)
 }
 
 // Whether it must be present.
-pub fn must_in(limits: &[u64; 52], id: usize) -> bool
-    requires { ⌜ (now limits ≡ limitColumn) × (id < 52) ⌝ }
+pub fn must_in(limits: &[u64; FIELDS], id: usize) -> bool
+    requires { ⌜ (now limits ≡ limitColumn) × (id < fieldCount) ⌝ }
     ensures { λ r. ⌜ r ≡ fieldAt id .must ⌝ }
 {
     part(limits, id, 4) == 1
@@ -83,7 +84,7 @@ pub fn must_in(limits: &[u64; 52], id: usize) -> bool
 
 // The letters of a field, as a key.
 pub fn letters_of(id: usize) -> u64
-    requires { ⌜ id < 52 ⌝ }
+    requires { ⌜ id < fieldCount ⌝ }
     ensures { λ r. ⌜ r ≡ keyOf (fieldAt id .letters) ⌝ }
 {
     KEYS[id]
@@ -91,7 +92,7 @@ pub fn letters_of(id: usize) -> u64
 
 // The same rule, with the limits of the table itself.
 pub fn rule_of(id: usize) -> u8
-    requires { ⌜ id < 52 ⌝ }
+    requires { ⌜ id < fieldCount ⌝ }
     ensures { λ r. ⌜ r ≡ ruleNumber (fieldAt id .rule) ⌝ }
 {
     let limits = limits();
@@ -108,7 +109,7 @@ fn entry(column: u64, i: usize) -> usize
 
 // The place of an element's first field in the table.
 pub fn first_of(element: u8) -> usize
-    requires { ⌜ element < 10 ⌝ }
+    requires { ⌜ element < kindCount ⌝ }
     ensures { λ r. ⌜ r ≡ firstOf (kindAt element) ⌝ }
 {
     entry(FIRSTS, element as usize)
@@ -116,15 +117,15 @@ pub fn first_of(element: u8) -> usize
 
 // How many fields an element has.
 pub fn count_of(element: u8) -> usize
-    requires { ⌜ element < 10 ⌝ }
-    ensures { λ r. ⌜ (r ≡ countOf (kindAt element)) × (firstOf (kindAt element) + r ≤ 52) ⌝ }
+    requires { ⌜ element < kindCount ⌝ }
+    ensures { λ r. ⌜ (r ≡ countOf (kindAt element)) × (firstOf (kindAt element) + r ≤ fieldCount) ⌝ }
 {
     entry(COUNTS, element as usize)
 }
 
 // How many pairs of fields of an element exclude each other.
 pub fn pairs_of(element: u8) -> usize
-    requires { ⌜ element < 10 ⌝ }
+    requires { ⌜ element < kindCount ⌝ }
     ensures { λ r. ⌜ r ≡ length (excluded (kindAt element)) ⌝ }
 {
     entry(PAIR_COUNTS, element as usize)
@@ -132,7 +133,7 @@ pub fn pairs_of(element: u8) -> usize
 
 // The place of the one field of such a pair among its element's fields.
 pub fn pair_one(element: u8, i: usize) -> usize
-    requires { ⌜ (element < 10) × (i < length (excluded (kindAt element))) ⌝ }
+    requires { ⌜ (element < kindCount) × (i < length (excluded (kindAt element))) ⌝ }
     ensures { λ r. ⌜ r ≡ getD (onesOf (kindAt element)) i 0 ⌝ }
 {
     let first = entry(PAIR_FIRSTS, element as usize);
@@ -141,7 +142,7 @@ pub fn pair_one(element: u8, i: usize) -> usize
 
 // The place of the other field of such a pair.
 pub fn pair_other(element: u8, i: usize) -> usize
-    requires { ⌜ (element < 10) × (i < length (excluded (kindAt element))) ⌝ }
+    requires { ⌜ (element < kindCount) × (i < length (excluded (kindAt element))) ⌝ }
     ensures { λ r. ⌜ r ≡ getD (othersOf (kindAt element)) i 0 ⌝ }
 {
     let first = entry(PAIR_FIRSTS, element as usize);
@@ -181,7 +182,7 @@ pub fn find(keys: &[u64], from: usize, to: usize, k: u64) -> usize
 
 // The place of a field among its element's, by its letters; the number of the element's fields if it has no such field.
 pub fn field_in(keys: &[u64], element: u8, name: &[u8]) -> usize
-    requires { ⌜ (now keys ≡ keyColumn) × (element < 10) ⌝ }
+    requires { ⌜ (now keys ≡ keyColumn) × (element < kindCount) ⌝ }
     ensures { λ r. ⌜ (r ≡ placeIn (now (name .entry)) (fieldsOf (kindAt element))) × (r ≤ countOf (kindAt element)) ⌝ }
 {
     let first = first_of(element);
@@ -191,7 +192,7 @@ pub fn field_in(keys: &[u64], element: u8, name: &[u8]) -> usize
 
 // The same, with the keys of the table itself.
 pub fn field(element: u8, name: &[u8]) -> usize
-    requires { ⌜ element < 10 ⌝ }
+    requires { ⌜ element < kindCount ⌝ }
     ensures { λ r. ⌜ (r ≡ placeIn (now (name .entry)) (fieldsOf (kindAt element))) × (r ≤ countOf (kindAt element)) ⌝ }
 {
     let keys = keys();

@@ -8,7 +8,7 @@ ghost use lib.Seq.{slice};
 ghost use Rattle.paper.specs.Lists.{every, count};
 ghost use Rattle.paper.specs.Bytes.{isDecoded};
 ghost use Rattle.paper.specs.Rules.{obeys, keeps, linesOk};
-ghost use Rattle.fields.specs.Places.{ruleAt, formed, fieldFlaw, fieldAt};
+ghost use Rattle.fields.specs.Places.{ruleAt, formed, fieldFlaw, fieldAt, fieldCount};
 ghost use Rattle.fields.specs.Columns.{limitColumn};
 use crate::dates::is_birthday;
 use crate::dates::is_stamp;
@@ -20,6 +20,7 @@ use crate::lookup::must_in;
 use crate::lookup::rule_in;
 use crate::lookup::tildes_in;
 use crate::package_number::is_package;
+use crate::places::FIELDS;
 use crate::sets::CODE;
 use crate::sets::DIGIT;
 use crate::sets::HEX;
@@ -127,8 +128,8 @@ pub fn keeps_rule(rule: u8, v: &[u8]) -> bool
 }
 
 // Whether a value has a length and a form that its field allows.
-pub fn keeps_form(limits: &[u64; 52], id: usize, v: &[u8]) -> bool
-    requires { ⌜ (now limits ≡ limitColumn) × (id < 52) ⌝ }
+pub fn keeps_form(limits: &[u64; FIELDS], id: usize, v: &[u8]) -> bool
+    requires { ⌜ (now limits ≡ limitColumn) × (id < fieldCount) ⌝ }
     ensures { λ r. ⌜ r ≡ formed (fieldAt id) (now (v .entry)) ⌝ }
 {
     if v.len() < least_in(limits, id) {
@@ -141,8 +142,8 @@ pub fn keeps_form(limits: &[u64; 52], id: usize, v: &[u8]) -> bool
 }
 
 // Whether a present value keeps its field, with the limits of the table handed down by a caller that copies them once.
-pub fn keeps_in(limits: &[u64; 52], id: usize, v: &[u8]) -> bool
-    requires { ⌜ (now limits ≡ limitColumn) × (id < 52) ⌝ }
+pub fn keeps_in(limits: &[u64; FIELDS], id: usize, v: &[u8]) -> bool
+    requires { ⌜ (now limits ≡ limitColumn) × (id < fieldCount) ⌝ }
     ensures { λ r. ⌜ r ≡ keeps (fieldAt id) (now (v .entry)) ⌝ }
 {
     if is_text(v, tildes_in(limits, id)) {
@@ -152,8 +153,8 @@ pub fn keeps_in(limits: &[u64; 52], id: usize, v: &[u8]) -> bool
 }
 
 // What is wrong with the value from `from` up to `to` of a text: 7 if it breaks its field, 8 if it must be present and is not, 9 if nothing is.
-pub fn value_flaw(limits: &[u64; 52], id: usize, text: &[u8], from: usize, to: usize) -> u8
-    requires { ⌜ (now limits ≡ limitColumn) × (id < 52) × (from ≤ to) × (to ≤ length (now text)) ⌝ }
+pub fn value_flaw(limits: &[u64; FIELDS], id: usize, text: &[u8], from: usize, to: usize) -> u8
+    requires { ⌜ (now limits ≡ limitColumn) × (id < fieldCount) × (from ≤ to) × (to ≤ length (now text)) ⌝ }
     ensures { λ r. ⌜ r ≡ fieldFlaw (fieldAt id) (slice from to (now (text .entry))) ⌝ }
 {
     if from == to {
@@ -170,7 +171,7 @@ pub fn value_flaw(limits: &[u64; 52], id: usize, text: &[u8], from: usize, to: u
 
 // Whether a value keeps its field, with the limits of the table itself.
 pub fn keeps_field(id: usize, v: &[u8]) -> bool
-    requires { ⌜ id < 52 ⌝ }
+    requires { ⌜ id < fieldCount ⌝ }
     ensures { λ r. ⌜ r ≡ keeps (fieldAt id) (now (v .entry)) ⌝ }
 {
     let limits = limits();

@@ -4,6 +4,7 @@ ghost use Prim.Native.Nat.{_+_, _*_, _≤_, _<_};
 ghost use lib.ListN.{length, drop};
 ghost use Rattle.paper.specs.Index.{indexOf, samePairs, pairsFrom, heldAt};
 ghost use Rattle.room.specs.Laid.{laid};
+ghost use Rattle.plan.specs.Numbers.{stride};
 ghost use Rattle.index.specs.Pairs.{pairAt, pairsIn, inPlace, rowsIn, rowsOf};
 ghost use Rattle.index.specs.Answers.{Finds, replied, repliedInto, replyTold, nthTold, listAfter};
 use crate::answer::Nth;
@@ -23,7 +24,7 @@ pub enum Found {
 
 // How many of the first n rows have a package number.
 fn count_numbers(rows: &[u32], n: usize) -> usize
-    requires { ⌜ n * 48 ≤ length (now rows) ⌝ }
+    requires { ⌜ n * stride ≤ length (now rows) ⌝ }
     ensures { λ r. ⌜ r ≡ length (pairsFrom 1 (rowsIn n (now (rows .entry)))) ⌝ }
 {
     let mut count = 0;
@@ -39,7 +40,7 @@ fn count_numbers(rows: &[u32], n: usize) -> usize
 
 // Whether the row of pair i is one of the first n rows and holds the pair's number.
 fn row_right(rows: &[u32], n: usize, index: &[u32], i: usize) -> bool
-    requires { ⌜ (n * 48 ≤ length (now rows)) × (2 * i + 1 < length (now index)) ⌝ }
+    requires { ⌜ (n * stride ≤ length (now rows)) × (2 * i + 1 < length (now index)) ⌝ }
     ensures { λ r. ⌜ r ≡ heldAt (rowsIn n (now (rows .entry))) (pairAt (now (index .entry)) i .number) (pairAt (now (index .entry)) i .row) ⌝ }
 {
     let number = index[2 * i];
@@ -70,7 +71,7 @@ fn in_place(index: &[u32], i: usize) -> bool
 // Whether the first `len` pairs are the index of the first n rows: as many as rows have a number, each with the number that its row holds, each behind the one
 // before it. This goes once over the rows and once over the pairs.
 pub fn is_index(rows: &[u32], n: usize, index: &[u32], len: usize) -> bool
-    requires { ⌜ (n * 48 ≤ length (now rows)) × (2 * len ≤ length (now index)) ⌝ }
+    requires { ⌜ (n * stride ≤ length (now rows)) × (2 * len ≤ length (now index)) ⌝ }
     ensures { λ r. ⌜ r ≡ samePairs (pairsIn len (now (index .entry))) (indexOf (rowsIn n (now (rows .entry)))) ⌝ }
 {
     if count_numbers(rows, n) != len {

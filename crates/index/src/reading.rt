@@ -4,6 +4,7 @@ ghost use Prim.Native.Nat.{_*_, _≤_};
 ghost use lib.ListN.{length};
 ghost use Rattle.paper.specs.Index.{indexOf};
 ghost use Rattle.room.specs.Laid.{laid};
+ghost use Rattle.plan.specs.Numbers.{stride};
 ghost use Rattle.index.specs.Pairs.{flat, rowsIn};
 ghost use Rattle.index.specs.Promise.{Promised, answered, collectedWith, noRoom};
 use crate::build::fill;
@@ -34,7 +35,7 @@ fn no_room() -> Indexed
 
 // A reading with the index of its rows, laid into the room. The plan of a refusal has no rows, so its index has no pair, and the room stays as it was.
 fn with_index(reading: Reading, rows: &[u32], index: &mut [u32]) -> Indexed
-    requires { ⌜ (reading .plan .rows ≤ 256) × (reading .plan .rows * 48 ≤ length (now rows)) × (512 ≤ length (now index)) ⌝ }
+    requires { ⌜ (reading .plan .rows ≤ 256) × (reading .plan .rows * stride ≤ length (now rows)) × (512 ≤ length (now index)) ⌝ }
     ensures { λ r. ⌜ (r .reading ≡ reading) × (r .pairs ≡ length (indexOf (rowsIn (reading .plan .rows) (now (rows .entry)))))
         × (now (index .exit) ≡ laid (now (index .entry)) 0 (flat (indexOf (rowsIn (reading .plan .rows) (now (rows .entry)))))) ⌝ }
 {

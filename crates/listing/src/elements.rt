@@ -10,22 +10,18 @@ ghost use Rattle.paper.specs.Listing.{print, headLines};
 ghost use Rattle.plan.specs.Numbers.{within, paperSpan, headWith};
 ghost use Rattle.room.specs.Written.{Wrote};
 ghost use Rattle.room.specs.Numbered.{spansAt};
+ghost use Rattle.fields.specs.Places.{fieldCount};
 ghost use Rattle.listing.specs.Numbered.{linesOf, mpLines};
 use crate::lines::field_line;
 use crate::lines::number_line;
 use crate::lines::text_line;
+use fields::places::A_LANR;
+use fields::places::MP_U;
+use fields::places::O_AI;
+use fields::places::P_G;
 use plan::Span;
 use plan::head_numbers;
 use room::wide;
-
-// Where the fields of the head's elements begin in the table: U of MP, and the first ones of P, A and O.
-const MP_U: usize = 2;
-
-const P_G: usize = 6;
-
-const A_LANR: usize = 14;
-
-const O_AI: usize = 24;
 
 // Writes the lines of `count` fields of the table from `first` on, under a path, and returns the place behind them. Their values are what as many spans
 // show in the text, the first of which stands at place `from` of the numbers; an absent value has no line.
@@ -39,7 +35,7 @@ pub fn fields(
     numbers: &[u32],
     from: usize,
 ) -> usize
-    requires { ⌜ (first + count ≤ 52)
+    requires { ⌜ (first + count ≤ fieldCount)
         × (from + 2 * count ≤ length (now numbers))
         × (every (within (length (now text))) (spansAt count from (now numbers)) ≡ true)
         × (at + length (print (linesOf (now path) first count (now text) from (now numbers))) ≤ length (now out)) ⌝ }

@@ -6,7 +6,7 @@ ghost use Prim.Native.Nat.{_+_, _≤_, _<_};
 ghost use lib.ListN.{length, take, drop};
 ghost use Rattle.paper.specs.Listing.{line, print, numeral};
 ghost use Rattle.paper.specs.Writing.{decimal};
-ghost use Rattle.fields.specs.Places.{nameOf, fieldAt};
+ghost use Rattle.fields.specs.Places.{nameOf, fieldAt, fieldCount};
 ghost use Rattle.plan.specs.Numbers.{within};
 ghost use Rattle.room.specs.Written.{Wrote};
 ghost use Rattle.listing.specs.Numbered.{given};
@@ -91,7 +91,7 @@ pub fn field_line(
     from: usize,
     len: usize,
 ) -> usize
-    requires { ⌜ (id < 52)
+    requires { ⌜ (id < fieldCount)
         × (within (length (now text)) (record { at = from; len = len }) ≡ true)
         × (at + length (print (given (now path ++ fieldAt id .letters) (take len (drop from (now text))))) ≤ length (now out)) ⌝ }
     ensures { λ r. ⌜ Wrote (now (out .entry)) (now (out .exit)) at r (print (given (now (path .entry) ++ fieldAt id .letters) (take len (drop from (now (text .entry)))))) ⌝ }

@@ -4,30 +4,25 @@ ghost use mathlib.Core.Bool.{true};
 ghost use Prim.Native.Nat.{_+_, _*_, _≤_, _<_};
 ghost use lib.ListN.{length};
 ghost use Rattle.paper.specs.Listing.{print, rowLines, rowsLines, listing};
-ghost use Rattle.plan.specs.Numbers.{recordAt, showRow, showRows, showPlan, inText, headInText, fitRows};
+ghost use Rattle.plan.specs.Numbers.{recordAt, showRow, showRows, showPlan, inText, headInText, fitRows, stride};
 ghost use Rattle.room.specs.Laid.{laid};
 ghost use Rattle.room.specs.Written.{Wrote};
+ghost use Rattle.fields.specs.Places.{fieldCount};
 ghost use Rattle.listing.specs.Numbered.{plainRow, medicationRow, substanceLines};
 use crate::elements::fields;
 use crate::elements::head_lines;
 use crate::lines::count_line;
 use crate::lines::number_line;
 use crate::lines::text_line;
+use fields::places::M_A;
+use fields::places::R_T;
+use fields::places::S_C;
+use fields::places::W_W;
+use fields::places::X_T;
 use plan::Kind;
 use plan::Plan;
 use plan::kind_at;
 use plan::package_at;
-
-// Where the fields of a row's elements begin in the table: the first ones of S, R, X and W, and of M the one behind the package number.
-const S_C: usize = 31;
-
-const M_A: usize = 34;
-
-const W_W: usize = 47;
-
-const R_T: usize = 49;
-
-const X_T: usize = 51;
 
 // Writes the lines of a row without package number and W: its mark, and its fields.
 fn plain_row(
@@ -41,8 +36,8 @@ fn plain_row(
     rows: &[u32],
     i: usize,
 ) -> usize
-    requires { ⌜ ((i + 1) * 48 ≤ length (now rows))
-        × (first + count ≤ 52)
+    requires { ⌜ ((i + 1) * stride ≤ length (now rows))
+        × (first + count ≤ fieldCount)
         × (count ≤ 19)
         × (inText (now text) (recordAt (now rows) i) ≡ true)
         × (at + length (print (plainRow (now mark) (now path) first count (now text) (now rows) i)) ≤ length (now out)) ⌝ }
@@ -54,7 +49,7 @@ fn plain_row(
 
 // Writes the lines of a medication's substances: w and s of each of its W.
 fn substance_lines(out: &mut [u8], at: usize, text: &[u8], rows: &[u32], i: usize) -> usize
-    requires { ⌜ ((i + 1) * 48 ≤ length (now rows))
+    requires { ⌜ ((i + 1) * stride ≤ length (now rows))
         × (inText (now text) (recordAt (now rows) i) ≡ true)
         × (at + length (print (substanceLines (now text) (now rows) i)) ≤ length (now out)) ⌝ }
     ensures { λ r. ⌜ Wrote (now (out .entry)) (now (out .exit)) at r (print (substanceLines (now (text .entry)) (now (rows .entry)) i)) ⌝ }
@@ -67,7 +62,7 @@ fn substance_lines(out: &mut [u8], at: usize, text: &[u8], rows: &[u32], i: usiz
 
 // Writes the lines of a medication row: its mark, its package number unless it has none, its other fields, and its substances.
 fn medication_row(out: &mut [u8], at: usize, text: &[u8], rows: &[u32], i: usize) -> usize
-    requires { ⌜ ((i + 1) * 48 ≤ length (now rows))
+    requires { ⌜ ((i + 1) * stride ≤ length (now rows))
         × (inText (now text) (recordAt (now rows) i) ≡ true)
         × (at + length (print (medicationRow (now text) (now rows) i)) ≤ length (now out)) ⌝ }
     ensures { λ r. ⌜ Wrote (now (out .entry)) (now (out .exit)) at r (print (medicationRow (now (text .entry)) (now (rows .entry)) i)) ⌝ }
@@ -90,7 +85,7 @@ fn medication_row(out: &mut [u8], at: usize, text: &[u8], rows: &[u32], i: usize
 
 // Writes the lines of row i, counted from 0, and returns the place behind them. A row of no kind has its mark's line alone, without a mark.
 pub fn row_lines(out: &mut [u8], at: usize, text: &[u8], rows: &[u32], i: usize) -> usize
-    requires { ⌜ ((i + 1) * 48 ≤ length (now rows))
+    requires { ⌜ ((i + 1) * stride ≤ length (now rows))
         × (inText (now text) (recordAt (now rows) i) ≡ true)
         × (at + length (print (rowLines (showRow (now text) (recordAt (now rows) i)))) ≤ length (now out)) ⌝ }
     ensures { λ r. ⌜ Wrote (now (out .entry)) (now (out .exit)) at r (print (rowLines (showRow (now (text .entry)) (recordAt (now (rows .entry)) i)))) ⌝ }
@@ -107,7 +102,7 @@ pub fn row_lines(out: &mut [u8], at: usize, text: &[u8], rows: &[u32], i: usize)
 
 // Writes the lines of the first n rows, and returns the place behind them.
 pub fn rows_lines(out: &mut [u8], at: usize, text: &[u8], rows: &[u32], n: usize) -> usize
-    requires { ⌜ (n * 48 ≤ length (now rows))
+    requires { ⌜ (n * stride ≤ length (now rows))
         × (fitRows (now text) n (now rows) ≡ true)
         × (at + length (print (rowsLines (showRows (now text) n (now rows)))) ≤ length (now out)) ⌝ }
     ensures { λ r. ⌜ Wrote (now (out .entry)) (now (out .exit)) at r (print (rowsLines (showRows (now (text .entry)) n (now (rows .entry))))) ⌝ }
@@ -123,7 +118,7 @@ pub fn rows_lines(out: &mut [u8], at: usize, text: &[u8], rows: &[u32], n: usize
 
 // Prints the listing of the plan that the numbers show into `out`, and returns its length. All other bytes of `out` stay.
 pub fn list_plan(plan: Plan, rows: &[u32], text: &[u8], out: &mut [u8]) -> usize
-    requires { ⌜ (plan .rows * 48 ≤ length (now rows))
+    requires { ⌜ (plan .rows * stride ≤ length (now rows))
         × (headInText (now text) plan ≡ true)
         × (fitRows (now text) (plan .rows) (now rows) ≡ true)
         × (length (listing (showPlan (now text) plan (now rows))) ≤ length (now out)) ⌝ }

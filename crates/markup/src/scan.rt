@@ -2,6 +2,7 @@
 ghost use mathlib.Core.Path.{_≡_};
 ghost use Prim.Native.Nat.{_≤_};
 ghost use lib.ListN.{length};
+ghost use Rattle.paper.specs.Sizes.{pageBytes};
 ghost use Rattle.markup.specs.Extent.{extentOf, behindAt};
 use crate::tables::AFTER;
 use crate::tables::BARE;
@@ -37,7 +38,7 @@ fn behind(depth: usize) -> u8
 // Whether a page is well-formed, else the length of its longest good beginning. One step a byte: the table gives the next mode, or an act on the
 // open elements, of whose names `starts` and `ends` hold the places, innermost last; `k` to `e` is what an end tag's name must still spell.
 pub fn scan(page: &[u8]) -> Extent
-    requires { ⌜ length (now page) ≤ 1400 ⌝ }
+    requires { ⌜ length (now page) ≤ pageBytes ⌝ }
     ensures { λ r. ⌜ r ≡ extentOf (now (page .entry)) ⌝ }
 {
     let kinds = KINDS;

@@ -3,6 +3,7 @@
 // hexadecimal; `end` for an end tag or a tag that closes itself.
 ghost use Prim.Native.Nat.{_<_, _≤_};
 ghost use lib.ListN.{length};
+ghost use Rattle.paper.specs.Sizes.{pageBytes};
 use libc::STDIN_FILENO;
 use libc::STDOUT_FILENO;
 use markup::scan::Extent;
@@ -42,9 +43,9 @@ fn show_hex(s: &[u8], n: usize)
 
 // Prints an attribute.
 fn show_attr(page: &[u8], name_at: usize, name_end: usize, raw_at: usize, raw_end: usize)
-    requires { ⌜ (length (now page) ≤ 1400) × («name_at» ≤ «name_end») × («name_end» ≤ length (now page)) × («raw_at» ≤ «raw_end») × («raw_end» ≤ length (now page)) ⌝ }
+    requires { ⌜ (length (now page) ≤ pageBytes) × («name_at» ≤ «name_end») × («name_end» ≤ length (now page)) × («raw_at» ≤ «raw_end») × («raw_end» ≤ length (now page)) ⌝ }
 {
-    let mut out = [0u8; 1400];
+    let mut out = [0u8; paper::PAGE];
     let n = decode(page, raw_at, raw_end, &mut out, 0);
     io::write_all(STDOUT_FILENO, b"attr ");
     io::write_all(STDOUT_FILENO, &page[name_at..name_end]);
@@ -55,7 +56,7 @@ fn show_attr(page: &[u8], name_at: usize, name_end: usize, raw_at: usize, raw_en
 
 // Prints the attributes of a tag from `at` on, and `end` if the tag closes itself.
 fn show_attrs(page: &[u8], at: usize)
-    requires { ⌜ (length (now page) ≤ 1400) × (at ≤ length (now page)) ⌝ }
+    requires { ⌜ (length (now page) ≤ pageBytes) × (at ≤ length (now page)) ⌝ }
 {
     let mut i = at;
     loop {
@@ -82,7 +83,7 @@ fn show_attrs(page: &[u8], at: usize)
 
 // Prints a start tag.
 fn show_start(page: &[u8], at: usize, name_end: usize)
-    requires { ⌜ (length (now page) ≤ 1400) × (at < «name_end») × («name_end» ≤ length (now page)) ⌝ }
+    requires { ⌜ (length (now page) ≤ pageBytes) × (at < «name_end») × («name_end» ≤ length (now page)) ⌝ }
 {
     io::write_all(STDOUT_FILENO, b"start ");
     io::print_decimal(STDOUT_FILENO, at as u64);
@@ -99,7 +100,7 @@ fn show_end() {
 
 // Prints the tags of a page.
 fn show_tags(page: &[u8])
-    requires { ⌜ length (now page) ≤ 1400 ⌝ }
+    requires { ⌜ length (now page) ≤ pageBytes ⌝ }
 {
     let mut i = 0;
     loop {
@@ -122,7 +123,7 @@ fn show_tags(page: &[u8])
 
 // Prints how far a page is good.
 fn show_extent(page: &[u8])
-    requires { ⌜ length (now page) ≤ 1400 ⌝ }
+    requires { ⌜ length (now page) ≤ pageBytes ⌝ }
 {
     let x = scan(page);
     match x {
@@ -138,7 +139,7 @@ fn show_extent(page: &[u8])
 }
 
 fn main() {
-    let mut buf = [0u8; 1400];
+    let mut buf = [0u8; paper::PAGE];
     let n = io::read_full(STDIN_FILENO, &mut buf);
     show_extent(&buf[..n]);
     show_tags(&buf[..n]);

@@ -11,8 +11,9 @@ use Rattle.paper.specs.Fields.{Kind, M, R, S, X, is, fieldsOf}
 use Rattle.paper.specs.Plan.{Slots, Head, Row, slot}
 use Rattle.paper.specs.Judging.{allEmpty, tail}
 use Rattle.paper.specs.Layout.{spansFrom, headValues, rowValues, rowsValues}
+use Rattle.paper.specs.Calls.{textRoom}
 use Rattle.room.specs.Laid.{laid}
-use Rattle.plan.specs.Numbers.{flat, rowNumbers, rowsNumbers, headSpans}
+use Rattle.plan.specs.Numbers.{flat, rowNumbers, rowsNumbers, headSpans, stride}
 use Rattle.plan.specs.declared.Span as Code
 
 -- ---- values laid
@@ -20,7 +21,7 @@ use Rattle.plan.specs.declared.Span as Code
 -- there is room for the values from place n of the text on; no text that is laid out is longer than 12,600 bytes
 pub record Room (vs : Slots) (text : List ℕ) (n : ℕ) : Type 0 where
   pub fits : n + length (concat vs) ≤ length text
-  pub short : n + length (concat vs) ≤ 12600
+  pub short : n + length (concat vs) ≤ textRoom
 
 -- the start of the span of a value of that length that is laid at n
 abbrev pub startOf : ℕ → ℕ → ℕ
@@ -59,11 +60,11 @@ rowFrom k vs ws = if (is k M) (record { kind = M; pzn = number 0 (slot (bytes "p
 pub record LaysRow (r : Row) (text text′ : List ℕ) (n e : ℕ) (rows rows′ : List ℕ) (i : ℕ) : Type 0 where
   pub end-is : e ≡ n + length (concat (rowValues r))
   pub text-is : text′ ≡ laid text n (concat (rowValues r))
-  pub rows-are : rows′ ≡ laid rows (i * 48) (rowNumbers n r)
+  pub rows-are : rows′ ≡ laid rows (i * stride) (rowNumbers n r)
 
 -- rows laid: their values into the text from n on up to e, and their records into the rows from row i on up to row j
 pub record Fills (rs : List Row) (text text′ : List ℕ) (n e : ℕ) (rows rows′ : List ℕ) (i j : ℕ) : Type 0 where
   pub end-is : e ≡ n + length (concat (rowsValues rs))
   pub next-is : j ≡ i + length rs
   pub text-is : text′ ≡ laid text n (concat (rowsValues rs))
-  pub rows-are : rows′ ≡ laid rows (i * 48) (rowsNumbers n rs)
+  pub rows-are : rows′ ≡ laid rows (i * stride) (rowsNumbers n rs)

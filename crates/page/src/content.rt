@@ -11,8 +11,8 @@ ghost use Rattle.paper.specs.Plan.{sameHead};
 ghost use Rattle.paper.specs.Judging.{or};
 ghost use Rattle.paper.specs.Layout.{headValues, rowValues, rowsValues};
 ghost use Rattle.markup.specs.Walk.{tagsAt};
-ghost use Rattle.fields.specs.Places.{kindAt, countOf, fieldAt};
-ghost use Rattle.plan.specs.Numbers.{kindNumber};
+ghost use Rattle.fields.specs.Places.{kindAt, countOf, fieldAt, kindCount};
+ghost use Rattle.plan.specs.Numbers.{kindNumber, stride};
 ghost use Rattle.plan.specs.Records.{paperKind};
 ghost use Rattle.sheet.specs.Content.{partFrom, rowsFrom, headFrom, contentOf};
 ghost use Rattle.sheet.specs.Fit.{Fit};
@@ -25,7 +25,17 @@ use crate::values::number_in;
 use crate::values::same_slots;
 use crate::values::value_of;
 use fields::lookup::count_of;
+use fields::places::A;
+use fields::places::M;
+use fields::places::MP;
+use fields::places::O;
+use fields::places::P;
+use fields::places::R;
+use fields::places::S;
+use fields::places::W;
+use fields::places::X;
 use plan::Kind;
+use plan::Plan;
 use plan::Span;
 use plan::open_row;
 use room::spells;
@@ -34,25 +44,6 @@ use room::spells;
 pub const HEADER: usize = 3;
 
 const NEXT: usize = 2;
-
-// The numbers of the elements.
-const MP: u8 = 1;
-
-const PERSON: u8 = 2;
-
-const AUTHOR: u8 = 3;
-
-const MEASURES: u8 = 4;
-
-const SECTION: u8 = 5;
-
-const MEDICATION: u8 = 6;
-
-const SUBSTANCE: u8 = 7;
-
-const RECIPE: u8 = 8;
-
-const NOTE: u8 = 9;
 
 // Where the parts of a page's head lie on the tape.
 pub struct Places {
@@ -96,9 +87,9 @@ pub fn find_head<'a>(page: &'a [u8], side: &'a [u8], tape: &'a [u16], i: usize, 
     ensures { λ r. ⌜ HeadAt (now (page .entry)) (now (side .entry)) (now (tape .entry)) r ⌝ }
 {
     let mp = part(page, side, tape, i, j, MP);
-    let person = part(page, side, tape, i, j, PERSON);
-    let author = part(page, side, tape, i, j, AUTHOR);
-    let measures = part(page, side, tape, i, j, MEASURES);
+    let person = part(page, side, tape, i, j, P);
+    let author = part(page, side, tape, i, j, A);
+    let measures = part(page, side, tape, i, j, O);
     Places {
         mp: mp,
         person: person,
@@ -200,7 +191,7 @@ pub fn lay_head<'a>(
         side,
         tape,
         h.person,
-        count_of(PERSON),
+        count_of(P),
         text,
         m,
         &mut numbers,
@@ -211,7 +202,7 @@ pub fn lay_head<'a>(
         side,
         tape,
         h.author,
-        count_of(AUTHOR),
+        count_of(A),
         text,
         p,
         &mut numbers,
@@ -222,7 +213,7 @@ pub fn lay_head<'a>(
         side,
         tape,
         h.measures,
-        count_of(MEASURES),
+        count_of(O),
         text,
         a,
         &mut numbers,
@@ -278,21 +269,13 @@ fn same_head<'a>(
     if !same_language(two, one, side, tape, k.mp, h.mp, b"de-DE") {
         return false;
     }
-    if !same_slots(two, one, side, tape, k.person, h.person, count_of(PERSON)) {
+    if !same_slots(two, one, side, tape, k.person, h.person, count_of(P)) {
         return false;
     }
-    if !same_slots(two, one, side, tape, k.author, h.author, count_of(AUTHOR)) {
+    if !same_slots(two, one, side, tape, k.author, h.author, count_of(A)) {
         return false;
     }
-    same_slots(
-        two,
-        one,
-        side,
-        tape,
-        k.measures,
-        h.measures,
-        count_of(MEASURES),
-    )
+    same_slots(two, one, side, tape, k.measures, h.measures, count_of(O))
 }
 
 // Whether two pages have the same count and the same head, told by where its parts lie.
@@ -318,19 +301,19 @@ pub fn alike<'a>(
 
 // Whether an element gives a row: an M, an R and an X do, and an S of which c or t is present.
 fn gives_row<'a>(page: &'a [u8], side: &'a [u8], tape: &'a [u16], base: usize, kind: u8) -> bool
-    requires { ⌜ (kind < 10) × (base + 2 * countOf (kindAt kind) ≤ length (now tape)) × Spans (now page) (length (now side)) (countOf (kindAt kind)) (now tape) base ⌝ }
+    requires { ⌜ (kind < kindCount) × (base + 2 * countOf (kindAt kind) ≤ length (now tape)) × Spans (now page) (length (now side)) (countOf (kindAt kind)) (now tape) base ⌝ }
     ensures { λ r. ⌜ r ≡ givesRow (kindAt kind) (valuesAt (now (page .entry)) (now (side .entry)) (countOf (kindAt kind)) (now (tape .entry)) base) ⌝ }
 {
-    if kind == MEDICATION {
+    if kind == M {
         return true;
     }
-    if kind == RECIPE {
+    if kind == R {
         return true;
     }
-    if kind == NOTE {
+    if kind == X {
         return true;
     }
-    if kind != SECTION {
+    if kind != S {
         return false;
     }
     let c = value_of(page, side, tape[base] as usize, tape[base + 1] as usize);
@@ -383,7 +366,7 @@ fn lay_ws<'a>(
     let mut m = n;
     let mut b = at;
     while f < j {
-        if tape[f] != SUBSTANCE as u16 {
+        if tape[f] != W as u16 {
             return m;
         }
         m = lay_slots(page, side, tape, f + HEADER, 2, text, m, numbers, b);
@@ -395,19 +378,19 @@ fn lay_ws<'a>(
 
 // The kind of row that an element gives.
 fn row_kind(kind: u8) -> Kind
-    requires { ⌜ kind < 10 ⌝ }
+    requires { ⌜ kind < kindCount ⌝ }
     ensures { λ r. ⌜ kindNumber (paperKind r) ≡ kindNumber (kindAt kind) ⌝ }
 {
-    if kind == SECTION {
+    if kind == S {
         return Kind::Heading;
     }
-    if kind == MEDICATION {
+    if kind == M {
         return Kind::Medication;
     }
-    if kind == RECIPE {
+    if kind == R {
         return Kind::Recipe;
     }
-    if kind == NOTE {
+    if kind == X {
         return Kind::Note;
     }
     Kind::Unknown
@@ -427,7 +410,7 @@ fn lay_medication<'a>(
     r: usize,
 ) -> usize
     requires { ⌜ (base + 28 ≤ length (now tape)) × Spans (now page) (length (now side)) 14 (now tape) base × (length (getD (valuesAt (now page) (now side) 14 (now tape) base) 0 []) ≤ 8)
-        × Walk (now page) (now side) (now tape) next j × ((r + 1) * 48 ≤ length (now rows))
+        × Walk (now page) (now side) (now tape) next j × ((r + 1) * stride ≤ length (now rows))
         × ((es : List Elem) → Lies (now page) (now side) (length (now side)) (now tape) next j es
         → (length (wsBy es) ≤ 3) × Room (rowValues (rowFrom M (valuesAt (now page) (now side) 14 (now tape) base) (wsBy es))) (now text) n) ⌝ }
     ensures { λ e. ⌜ ((es : List Elem) → Lies (now (page .entry)) (now (side .entry)) (length (now (side .entry))) (now (tape .entry)) next j es
@@ -436,8 +419,28 @@ fn lay_medication<'a>(
 {
     let p = number_in(page, side, tape, base);
     open_row(rows, r, Kind::Medication, p);
-    let m = lay_slots(page, side, tape, base + 2, 13, text, n, rows, r * 48 + 2);
-    lay_ws(page, side, tape, next, j, text, m, rows, r * 48 + 28)
+    let m = lay_slots(
+        page,
+        side,
+        tape,
+        base + 2,
+        13,
+        text,
+        n,
+        rows,
+        r * Plan::STRIDE + 2,
+    );
+    lay_ws(
+        page,
+        side,
+        tape,
+        next,
+        j,
+        text,
+        m,
+        rows,
+        r * Plan::STRIDE + 28,
+    )
 }
 
 // Lays a heading, a recipe or a note as row r.
@@ -452,16 +455,26 @@ fn lay_plain<'a>(
     rows: &mut [u32],
     r: usize,
 ) -> usize
-    requires { ⌜ (kind < 10) × (kind ≡ 6 → ⊥) × (base + 2 * countOf (kindAt kind) ≤ length (now tape))
+    requires { ⌜ (kind < kindCount) × (kind ≡ 6 → ⊥) × (base + 2 * countOf (kindAt kind) ≤ length (now tape))
         × Spans (now page) (length (now side)) (countOf (kindAt kind)) (now tape) base
-        × Room (rowValues (rowFrom (kindAt kind) (valuesAt (now page) (now side) (countOf (kindAt kind)) (now tape) base) [])) (now text) n × ((r + 1) * 48 ≤ length (now rows)) ⌝ }
+        × Room (rowValues (rowFrom (kindAt kind) (valuesAt (now page) (now side) (countOf (kindAt kind)) (now tape) base) [])) (now text) n × ((r + 1) * stride ≤ length (now rows)) ⌝ }
     ensures { λ e. ⌜ LaysRow (rowFrom (kindAt kind) (valuesAt (now (page .entry)) (now (side .entry)) (countOf (kindAt kind)) (now (tape .entry)) base) [])
         (now (text .entry)) (now (text .exit)) n e (now (rows .entry)) (now (rows .exit)) r ⌝ }
 {
     let k = row_kind(kind);
     let count = count_of(kind);
     open_row(rows, r, k, 0);
-    lay_slots(page, side, tape, base, count, text, n, rows, r * 48 + 2)
+    lay_slots(
+        page,
+        side,
+        tape,
+        base,
+        count,
+        text,
+        n,
+        rows,
+        r * Plan::STRIDE + 2,
+    )
 }
 
 // Lays the rows of a page: their records into the rows from row r on, and their values into the text from `n` on.
@@ -477,7 +490,7 @@ pub fn fill_rows<'a>(
     r: usize,
 ) -> Filled
     requires { ⌜ Read (now page) (now side) (now tape) i j
-        × Room (rowsValues (rowsFrom (tagsAt (now page) 0))) (now text) n × ((r + length (rowsFrom (tagsAt (now page) 0))) * 48 ≤ length (now rows)) ⌝ }
+        × Room (rowsValues (rowsFrom (tagsAt (now page) 0))) (now text) n × ((r + length (rowsFrom (tagsAt (now page) 0))) * stride ≤ length (now rows)) ⌝ }
     ensures { λ e. ⌜ Fills (rowsFrom (tagsAt (now (page .entry)) 0)) (now (text .entry)) (now (text .exit)) n (e .end)
         (now (rows .entry)) (now (rows .exit)) r (e .row) ⌝ }
 {
@@ -487,7 +500,7 @@ pub fn fill_rows<'a>(
     while f < j {
         let kind = tape[f] as u8;
         let next = tape[f + NEXT] as usize;
-        if kind == MEDICATION {
+        if kind == M {
             m = lay_medication(page, side, tape, f + HEADER, next, j, text, m, rows, k);
             k += 1;
             f = next;

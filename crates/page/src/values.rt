@@ -5,6 +5,7 @@ ghost use Prim.Native.Nat.{_+_, _*_, _≤_};
 ghost use lib.ListN.{length, getD};
 ghost use Rattle.paper.specs.Lists.{number};
 ghost use Rattle.paper.specs.Plan.{sameSlots};
+ghost use Rattle.paper.specs.Calls.{textRoom};
 ghost use Rattle.page.specs.Laying.{startOf, Room, Lays};
 ghost use Rattle.tape.specs.Tape.{shownIn, valuesAt, Span, Spans};
 use fields::numbers::shown;
@@ -27,7 +28,7 @@ pub fn value_of<'a>(page: &'a [u8], side: &'a [u8], a: usize, b: usize) -> &'a [
 
 // Where the span of a value starts that is laid at `n`: an absent one has 0.
 fn start_of(n: usize, len: u32) -> u32
-    requires { ⌜ n ≤ 12600 ⌝ }
+    requires { ⌜ n ≤ textRoom ⌝ }
     ensures { λ r. ⌜ r ≡ startOf n len ⌝ }
 {
     if len == 0 {

@@ -8,11 +8,12 @@ use lib.ListN.{length}
 use Rattle.paper.specs.Lists.{concat}
 use Rattle.paper.specs.Plan.{Head, Row}
 use Rattle.paper.specs.Writing.{page}
+use Rattle.paper.specs.Sizes.{pageBytes}
 
 -- pages a, a + 1, … of z, spelled, are each at most 1,400 bytes long
 abbrev pub Fits : Head → ℕ → ℕ → List (List Row) → Type 0
 Fits h z a [] = Unit {0}
-Fits h z a (q ∷ qs) = (length (page h q a z) ≤ 1400) × Fits h z (suc a) qs
+Fits h z a (q ∷ qs) = (length (page h q a z) ≤ pageBytes) × Fits h z (suc a) qs
 
 -- a cut of the rows into k pages, one at least
 pub record Cut (h : Head) (l : List Row) (k : ℕ) : Type 0 where

@@ -15,6 +15,7 @@ use Rattle.paper.specs.Values.{value}
 use Rattle.paper.specs.Fields.{Kind, unknown, MP, P, A, O, S, M, W, R, X, is, edition, Field, fieldsOf, excluded, Pair, named, children, most-of, later}
 use Rattle.paper.specs.Rules.{keeps, settle}
 use Rattle.paper.specs.Plan.{Slots, Head, Row, slot, blank}
+use Rattle.paper.specs.Sizes.{pageBytes}
 
 -- a refusal number and the place it is given at
 pub record Fault : Type 0 where
@@ -277,5 +278,5 @@ judgeTags (some t) w = verdict (faults [] (placed (length w) t)) (items [] (plac
 
 -- a page: empty or above 1,400 (2), a byte not allowed (3), malformed (4), else by its tags
 unfoldable pub judge : List ℕ → Judged
-judge w = if (eqb (length w) 0 || ltb 1400 (length w)) (refused 2 0)
+judge w = if (eqb (length w) 0 || ltb pageBytes (length w)) (refused 2 0)
     (if (every isAllowed w) (judgeTags (scan before w) w) (refused 3 (firstRefused w)))

@@ -1,6 +1,7 @@
 -- Document 01 in definitions: all that the library promises is that the code equals these. Read in this order.
 pub mod Lists
 pub mod Bytes
+pub mod Sizes
 pub mod Grammar
 pub mod Machine
 pub mod Values

@@ -12,6 +12,7 @@ use Rattle.paper.specs.Fields.{Kind, unknown, MP, P, A, O, S, M, W, R, X
 use Rattle.paper.specs.Rules.{keeps, isZero}
 use Rattle.paper.specs.Plan.{Slots, Head, Row, Plan, slot, namesOf}
 use Rattle.paper.specs.Judging.{missing, clash, allEmpty}
+use Rattle.paper.specs.Sizes.{pageBytes}
 
 -- ---- numbers in digits
 
@@ -151,7 +152,7 @@ pages h z a (rs ∷ ps) = page h rs a z ∷ pages h z (suc a) ps
 
 -- a page of these rows fits into 1,400 bytes; a and z are one digit each, so its length is that of page 1 of 1
 abbrev pub fits : Head → List Row → Bool
-fits h rs = leb (length (page h rs 1 1)) 1400
+fits h rs = leb (length (page h rs 1 1)) pageBytes
 
 -- "Each page takes as many rows as fit into 1,400 bytes; a plan without rows is one page." `on` are the rows that stand on the page already. A row that fits
 -- on no page stands alone on one that is too long; `cuttable` refuses it.

@@ -28,13 +28,17 @@ use Rattle.plan.specs.declared.Plan.{Plan}
 
 -- ---- records
 
+-- how many numbers a row's record has
+abbrev pub stride : ℕ
+stride = 48
+
 -- how many rows so many numbers are
 abbrev pub rowsLent : ℕ → ℕ
-rowsLent numbers = numbers / 48
+rowsLent numbers = numbers / stride
 
 -- record i of the rows, counted from 0
 abbrev pub recordAt : List ℕ → ℕ → List ℕ
-recordAt rows i = take 48 (drop (i * 48) rows)
+recordAt rows i = take stride (drop (i * stride) rows)
 
 -- span j of a record
 abbrev pub spanIn : List ℕ → ℕ → Span
@@ -42,7 +46,7 @@ spanIn l j = record { at = getD l (2 + 2 * j) 0; len = getD l (3 + 2 * j) 0 }
 
 -- the place of span j of row i among the numbers of the rows
 abbrev pub spanPlace : ℕ → ℕ → ℕ
-spanPlace i j = i * 48 + (2 + 2 * j)
+spanPlace i j = i * stride + (2 + 2 * j)
 
 -- n spans of a record, from span j on
 unfoldable pub spansIn : ℕ → ℕ → List ℕ → List Span
@@ -98,7 +102,7 @@ showRow t l = rowWith (kindShown (getD l 0 0)) (getD l 1 0) (shownAll t (spansOf
 -- the rows that the first n records show
 abbrev pub showRows : List ℕ → ℕ → List ℕ → List Row
 showRows t zero rows = []
-showRows t (suc n) rows = showRow t (take 48 rows) ∷ showRows t n (drop 48 rows)
+showRows t (suc n) rows = showRow t (take stride rows) ∷ showRows t n (drop stride rows)
 
 -- a span of the code as document 01's span
 abbrev pub paperSpan : Code.Span → Span
@@ -153,7 +157,7 @@ fitRecord t l = knownKind (getD l 0 0) && (inText t l && spareAbsent l)
 -- the first n records are fit
 abbrev pub fitRows : List ℕ → ℕ → List ℕ → Bool
 fitRows t zero rows = true
-fitRows t (suc n) rows = fitRecord t (take 48 rows) && fitRows t n (drop 48 rows)
+fitRows t (suc n) rows = fitRecord t (take stride rows) && fitRows t n (drop stride rows)
 
 -- ---- what the reader lays out
 

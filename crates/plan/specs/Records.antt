@@ -18,7 +18,7 @@ use Rattle.plan.specs.declared.Kind.{Kind}
 use Rattle.plan.specs.declared.Kind.the-variants.{Heading, Medication, Recipe, Note, Unknown}
 use Rattle.plan.specs.declared.Row.{Row}
 use Rattle.plan.specs.declared.Plan.{Plan}
-use Rattle.plan.specs.Numbers.{spanIn, kindShown, paperSpan, codeSpan}
+use Rattle.plan.specs.Numbers.{spanIn, kindShown, paperSpan, codeSpan, stride}
 
 -- ---- kinds and doses
 
@@ -96,7 +96,7 @@ rowIn l = record { kind = codeKind (kindShown (getD l 0 0)); «package» = getD 
 
 -- the rows with another record i
 abbrev pub withRecord : List ℕ → ℕ → List ℕ → List ℕ
-withRecord rows i l = laid rows (i * 48) l
+withRecord rows i l = laid rows (i * stride) l
 
 -- the plan without rows and values
 abbrev pub emptyPlan : Plan

@@ -6,7 +6,7 @@ ghost use mathlib.Core.Path.{_≡_};
 ghost use Prim.Native.Nat.{_+_, _*_, _≤_, _<_};
 ghost use mathlib.Core.List.{[], map};
 ghost use lib.ListN.{length, getD};
-ghost use Rattle.plan.specs.Numbers.{recordAt, kindShown, paperSpan, kindNumber, headNumbers, recordWith};
+ghost use Rattle.plan.specs.Numbers.{recordAt, kindShown, paperSpan, kindNumber, headNumbers, recordWith, stride};
 ghost use Rattle.plan.specs.Records.{paperKind, codeKind, codeSpanIn, doseFrom, doseIn, textSpan, textsIn, rowIn, withRecord, emptyPlan};
 use room::lay_numbers;
 
@@ -62,15 +62,15 @@ impl Plan {
     // How many numbers a row's record has.
     pub const STRIDE: usize = 48;
     // The most bytes that a page has.
-    pub const PAGE: usize = 1400;
+    pub const PAGE: usize = paper::PAGE;
     // The numbers for rows that the caller lends.
     pub const NUMBERS: usize = Plan::ROWS * Plan::STRIDE;
     // The bytes of text that the caller lends.
-    pub const TEXT: usize = 12600;
+    pub const TEXT: usize = 9 * Plan::PAGE;
     // The bytes for pages that the caller lends: nine full ones.
     pub const PAGES: usize = 9 * Plan::PAGE;
     // The bytes for a listing of pages that the caller lends.
-    pub const LISTING: usize = 25200;
+    pub const LISTING: usize = 2 * Plan::TEXT;
 
     // The plan without rows and without any value.
     pub fn empty() -> Plan
@@ -119,7 +119,7 @@ pub fn kind_of(n: u32) -> Kind
 
 // The kind of row i, counted from 0.
 pub fn kind_at(rows: &[u32], i: usize) -> Kind
-    requires { ⌜ (i + 1) * 48 ≤ length (now rows) ⌝ }
+    requires { ⌜ (i + 1) * stride ≤ length (now rows) ⌝ }
     ensures { λ r. ⌜ r ≡ codeKind (kindShown (getD (recordAt (now (rows .entry)) i) 0 0)) ⌝ }
 {
     kind_of(rows[i * Plan::STRIDE])
@@ -127,7 +127,7 @@ pub fn kind_at(rows: &[u32], i: usize) -> Kind
 
 // The package number of row i; 0 if it has none.
 pub fn package_at(rows: &[u32], i: usize) -> u32
-    requires { ⌜ (i + 1) * 48 ≤ length (now rows) ⌝ }
+    requires { ⌜ (i + 1) * stride ≤ length (now rows) ⌝ }
     ensures { λ r. ⌜ r ≡ getD (recordAt (now (rows .entry)) i) 1 0 ⌝ }
 {
     rows[i * Plan::STRIDE + 1]
@@ -135,7 +135,7 @@ pub fn package_at(rows: &[u32], i: usize) -> u32
 
 // Span j of row i.
 pub fn span_at(rows: &[u32], i: usize, j: usize) -> Span
-    requires { ⌜ ((i + 1) * 48 ≤ length (now rows)) × (j < 19) ⌝ }
+    requires { ⌜ ((i + 1) * stride ≤ length (now rows)) × (j < 19) ⌝ }
     ensures { λ r. ⌜ r ≡ codeSpanIn (recordAt (now (rows .entry)) i) j ⌝ }
 {
     let k = i * Plan::STRIDE + 2 + 2 * j;
@@ -169,7 +169,7 @@ pub fn dose_from(x: Times, t: Span) -> Dose
 
 // The dose of row i.
 pub fn dose_at(rows: &[u32], i: usize) -> Dose
-    requires { ⌜ (i + 1) * 48 ≤ length (now rows) ⌝ }
+    requires { ⌜ (i + 1) * stride ≤ length (now rows) ⌝ }
     ensures { λ r. ⌜ r ≡ doseIn (recordAt (now (rows .entry)) i) ⌝ }
 {
     let morning = span_at(rows, i, 3);
@@ -196,7 +196,7 @@ fn text_span(j: usize) -> usize
 
 // The texts of row i: its values but those of the dose.
 pub fn texts_at(rows: &[u32], i: usize) -> [Span; 14]
-    requires { ⌜ (i + 1) * 48 ≤ length (now rows) ⌝ }
+    requires { ⌜ (i + 1) * stride ≤ length (now rows) ⌝ }
     ensures { λ r. ⌜ r ≡ textsIn 14 0 (recordAt (now (rows .entry)) i) ⌝ }
 {
     let none = Span { at: 0, len: 0 };
@@ -213,7 +213,7 @@ pub fn texts_at(rows: &[u32], i: usize) -> [Span; 14]
 
 // Row i, taken apart.
 pub fn row_at(rows: &[u32], i: usize) -> Row
-    requires { ⌜ (i + 1) * 48 ≤ length (now rows) ⌝ }
+    requires { ⌜ (i + 1) * stride ≤ length (now rows) ⌝ }
     ensures { λ r. ⌜ r ≡ rowIn (recordAt (now (rows .entry)) i) ⌝ }
 {
     let kind = kind_at(rows, i);
@@ -230,7 +230,7 @@ pub fn row_at(rows: &[u32], i: usize) -> Row
 
 // Opens row i: its record has the kind and the package number, and 0 in all other places. All other records stay.
 pub fn open_row(rows: &mut [u32], i: usize, kind: Kind, package: u32)
-    requires { ⌜ (i + 1) * 48 ≤ length (now rows) ⌝ }
+    requires { ⌜ (i + 1) * stride ≤ length (now rows) ⌝ }
     ensures { λ _. ⌜ now (rows .exit) ≡ withRecord (now (rows .entry)) i (recordWith (kindNumber (paperKind kind)) «package» []) ⌝ }
 {
     let mut record = [0u32; Plan::STRIDE];

@@ -9,13 +9,14 @@ use collector::lacks::missing_numbers;
 use collector::reading::read;
 use collector::store::Collector;
 use collector::store::clear;
+use plan::Plan;
 use reader::answer::refusal_number;
 use reader::answer::refusal_page;
 use reader::answer::refusal_place;
 
 // The collector with these fields.
 pub fn collector_of<'a>(
-    pages: &'a [u8; 12600],
+    pages: &'a [u8; Plan::PAGES],
     lens: &'a [u16; 9],
     numbers: &'a [u8; 2],
 ) -> Collector {
@@ -30,7 +31,7 @@ pub fn collector_of<'a>(
 }
 
 // The fields of a collector.
-fn put(c: Collector, pages: &mut [u8; 12600], lens: &mut [u16; 9], numbers: &mut [u8; 2]) {
+fn put(c: Collector, pages: &mut [u8; Plan::PAGES], lens: &mut [u16; 9], numbers: &mut [u8; 2]) {
     let p = c.pages;
     let l = c.lens;
     *pages = p;
@@ -42,7 +43,7 @@ fn put(c: Collector, pages: &mut [u8; 12600], lens: &mut [u16; 9], numbers: &mut
 // Adds a page of the buffer: 0 if it is added, 20 if it is already here, else the number of the refusal, with its page and place in `told`.
 #[no_mangle]
 pub extern "C" fn probe_add(
-    pages: &mut [u8; 12600],
+    pages: &mut [u8; Plan::PAGES],
     lens: &mut [u16; 9],
     numbers: &mut [u8; 2],
     buffer: &[u8],
@@ -69,7 +70,7 @@ pub extern "C" fn probe_add(
 // The mask of the missing numbers, how many they are, and the lowest.
 #[no_mangle]
 pub extern "C" fn probe_missing<'a>(
-    pages: &'a [u8; 12600],
+    pages: &'a [u8; Plan::PAGES],
     lens: &'a [u16; 9],
     numbers: &'a [u8; 2],
     told: &mut [u32; 3],
@@ -83,7 +84,7 @@ pub extern "C" fn probe_missing<'a>(
 // Reads the collected pages, and answers as `probe_read`.
 #[no_mangle]
 pub extern "C" fn probe_collected<'a>(
-    pages: &'a [u8; 12600],
+    pages: &'a [u8; Plan::PAGES],
     lens: &'a [u16; 9],
     numbers: &'a [u8; 2],
     rows: &mut [u32],
@@ -97,7 +98,11 @@ pub extern "C" fn probe_collected<'a>(
 
 // Makes a collector empty.
 #[no_mangle]
-pub extern "C" fn probe_clear(pages: &mut [u8; 12600], lens: &mut [u16; 9], numbers: &mut [u8; 2]) {
+pub extern "C" fn probe_clear(
+    pages: &mut [u8; Plan::PAGES],
+    lens: &mut [u16; 9],
+    numbers: &mut [u8; 2],
+) {
     let c = collector_of(pages, lens, numbers);
     put(clear(c), pages, lens, numbers);
 }

@@ -13,6 +13,7 @@ use index::ask::nth;
 use index::build::build;
 use index::reading::read;
 use index::reading::read_collected;
+use plan::Plan;
 
 // What is told of rows that hold a number: how many, and the first; 0 and 0 where there is none.
 fn tell_reply(reply: Reply, told: &mut [u32; 2]) -> u32 {
@@ -118,7 +119,7 @@ pub extern "C" fn probe_indexed<'a>(
 // Reads the collected pages with their index, and answers as `probe_indexed`.
 #[no_mangle]
 pub extern "C" fn probe_collected_indexed<'a>(
-    pages: &'a [u8; 12600],
+    pages: &'a [u8; Plan::PAGES],
     lens: &'a [u16; 9],
     numbers: &'a [u8; 2],
     rows: &mut [u32],

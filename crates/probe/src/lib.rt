@@ -14,6 +14,7 @@ use fields::lookup::count_of;
 use fields::lookup::field;
 use fields::lookup::first_of;
 use fields::lookup::rule_of;
+use fields::places::FIELDS;
 use fields::rules::keeps_field;
 use markup::scan::Extent;
 use markup::scan::scan;
@@ -139,23 +140,23 @@ pub extern "C" fn probe_child(parent: u8, name: &[u8]) -> u8 {
     child(parent, name)
 }
 
-// The place in the table of the field of that name in an element, or 52 if it is unknown there.
+// The place in the table of the field of that name in an element, or one past the table if it is unknown there.
 #[no_mangle]
 pub extern "C" fn probe_field(element: u8, name: &[u8]) -> usize {
     if element > 9 {
-        return 52;
+        return FIELDS;
     }
     let j = field(element, name);
     if j < count_of(element) {
         return first_of(element) + j;
     }
-    52
+    FIELDS
 }
 
 // Whether a value keeps the field at a place of the table: 0 no, 1 yes, 2 it is a dose of exactly 0, which reads as absent.
 #[no_mangle]
 pub extern "C" fn probe_keeps(id: usize, value: &[u8]) -> u8 {
-    if id > 51 {
+    if id >= FIELDS {
         return 0;
     }
     if is_zero(rule_of(id), value) {

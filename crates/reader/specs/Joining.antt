@@ -12,6 +12,7 @@ use Rattle.paper.specs.Layout.{headValues}
 use Rattle.paper.specs.Calls.{inside, pagesAt}
 use Rattle.paper.specs.Judging.{Sheet}
 use Rattle.paper.specs.Reading.{page9, joined}
+use Rattle.paper.specs.Sizes.{pageBytes}
 use Rattle.markup.specs.Walk.{tagsAt}
 use Rattle.sheet.specs.Content.{contentOf, headFrom}
 use Rattle.sheet.specs.Fit.{Fit}
@@ -35,11 +36,11 @@ likeFirst ws i = eqb (sheetAt ws i .of) (sheetAt ws 0 .of) && sameHead (sheetAt 
 
 -- a page that is short enough and can be laid out: its number and count are page numbers, and its head is no longer than a page
 pub record PageFits (w : List ℕ) : Type 0 where
-  pub short : length w ≤ 1400
+  pub short : length w ≤ pageBytes
   pub fit : Fit (tagsAt w 0)
   pub no-small : contentOf (tagsAt w 0) .no ≤ 9
   pub of-small : contentOf (tagsAt w 0) .of ≤ 9
-  pub head-short : length (concat (headValues (headFrom (tagsAt w 0)))) ≤ 1400
+  pub head-short : length (concat (headValues (headFrom (tagsAt w 0)))) ≤ pageBytes
 
 -- every page is such a page
 abbrev pub AllFit : List (List ℕ) → Type 0

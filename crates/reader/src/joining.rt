@@ -7,7 +7,7 @@ ghost use lib.ListN.{length, take, getD};
 ghost use Rattle.paper.specs.Reading.{joined, rowsAt};
 ghost use Rattle.paper.specs.Calls.{rowRoom, textRoom, inside, pagesAt};
 ghost use Rattle.paper.specs.Layout.{textOf, rowsValues};
-ghost use Rattle.plan.specs.Numbers.{planNumbers, planRows};
+ghost use Rattle.plan.specs.Numbers.{planNumbers, planRows, stride};
 ghost use Rattle.room.specs.Laid.{laid};
 ghost use Rattle.page.specs.Laying.{Room, Fills};
 ghost use Rattle.reader.specs.Pages.{nosOf};
@@ -224,7 +224,7 @@ fn fill_number<'a>(
     requires { ⌜ (length (now starts) ≤ 9) × Taken (now buffer) (now starts) (now lens) (now side) (now tape) (now firsts)
         × (nosOf (said (now buffer) (now starts) (now lens)) ≡ take (length (now starts)) nos)
         × Room (rowsValues (rowsAt k (said (now buffer) (now starts) (now lens)))) (now text) n
-        × ((i + length (rowsAt k (said (now buffer) (now starts) (now lens)))) * 48 ≤ length (now rows)) ⌝ }
+        × ((i + length (rowsAt k (said (now buffer) (now starts) (now lens)))) * stride ≤ length (now rows)) ⌝ }
     ensures { λ r. ⌜ Fills (rowsAt k (said (now (buffer .entry)) (now (starts .entry)) (now (lens .entry)))) (now (text .entry)) (now (text .exit)) n (r .end)
         (now (rows .entry)) (now (rows .exit)) i (r .row) ⌝ }
 {
@@ -254,7 +254,7 @@ fn fill_pages<'a>(
     requires { ⌜ (length (now starts) ≤ 9) × Taken (now buffer) (now starts) (now lens) (now side) (now tape) (now firsts)
         × (nosOf (said (now buffer) (now starts) (now lens)) ≡ take (length (now starts)) nos) × (z ≤ 9)
         × Room (rowsValues (joined (said (now buffer) (now starts) (now lens)) 1 z)) (now text) n
-        × (length (joined (said (now buffer) (now starts) (now lens)) 1 z) * 48 ≤ length (now rows)) ⌝ }
+        × (length (joined (said (now buffer) (now starts) (now lens)) 1 z) * stride ≤ length (now rows)) ⌝ }
     ensures { λ r. ⌜ Fills (joined (said (now (buffer .entry)) (now (starts .entry)) (now (lens .entry))) 1 z) (now (text .entry)) (now (text .exit)) n (r .end)
         (now (rows .entry)) (now (rows .exit)) 0 (r .row) ⌝ }
 {
@@ -299,7 +299,7 @@ pub fn fill_all<'a>(
     requires { ⌜ (1 ≤ length (now starts)) × (length (now starts) ≤ 9) × Taken (now buffer) (now starts) (now lens) (now side) (now tape) (now firsts)
         × (nosOf (said (now buffer) (now starts) (now lens)) ≡ take (length (now starts)) nos)
         × (z ≡ countSaid (said (now buffer) (now starts) (now lens))) × (z ≤ 9)
-        × (length (planIn (said (now buffer) (now starts) (now lens)) noPlan .rows) ≤ rowRoom) × (rowRoom * 48 ≤ length (now rows))
+        × (length (planIn (said (now buffer) (now starts) (now lens)) noPlan .rows) ≤ rowRoom) × (rowRoom * stride ≤ length (now rows))
         × (length (textOf (planIn (said (now buffer) (now starts) (now lens)) noPlan)) ≤ textRoom) × (textRoom ≤ length (now text)) ⌝ }
     ensures { λ r. ⌜ (r ≡ planNumbers (planIn (said (now (buffer .entry)) (now (starts .entry)) (now (lens .entry))) noPlan))
         × (now (text .exit) ≡ laid (now (text .entry)) 0 (textOf (planIn (said (now (buffer .entry)) (now (starts .entry)) (now (lens .entry))) noPlan)))

@@ -13,6 +13,7 @@ ghost use Rattle.reader.specs.Tapes.{Taken, AllSheets};
 use crate::joining::page_at;
 use fields::lookup::keys;
 use fields::lookup::limits;
+use fields::places::FIELDS;
 use plan::Plan;
 use quick::names::letter_table;
 use quick::odd_table;
@@ -42,10 +43,10 @@ pub struct Taping {
 // Takes one page onto the tape, from `first` on, if it is surely a sheet.
 fn take(
     page: &[u8],
-    keys: &[u64; 52],
+    keys: &[u64; FIELDS],
     letters: &[u8; 1280],
     odd: &[u8; 256],
-    limits: &[u64; 52],
+    limits: &[u64; FIELDS],
     tape: &mut [u16],
     first: usize,
     side: &mut [u8],

@@ -7,7 +7,7 @@ use Prim.Native.Nat.{ℕ, zero, suc}
 use lib.ListN.{take, drop}
 use Rattle.paper.specs.Lists.{if}
 use Rattle.paper.specs.Writing.{soundHead, soundRow}
-use Rattle.plan.specs.Numbers.{showHead, showRow, headInText, fitRecord}
+use Rattle.plan.specs.Numbers.{showHead, showRow, headInText, fitRecord, stride}
 use Rattle.plan.specs.declared.Plan.{Plan}
 
 -- the head in numbers: no span points outside the text, and the head that it shows is sound
@@ -21,12 +21,12 @@ recordSound t l = fitRecord t l && soundRow (showRow t l)
 -- the first n records
 abbrev pub recordsSound : List ℕ → ℕ → List ℕ → Bool
 recordsSound t zero rows = true
-recordsSound t (suc n) rows = recordSound t (take 48 rows) && recordsSound t n (drop 48 rows)
+recordsSound t (suc n) rows = recordSound t (take stride rows) && recordsSound t n (drop stride rows)
 
 -- "first bad row", counted from k, of the first n records; 0 if none is bad
 abbrev pub firstBadIn : ℕ → List ℕ → ℕ → List ℕ → ℕ
 firstBadIn k t zero rows = 0
-firstBadIn k t (suc n) rows = if (recordSound t (take 48 rows)) (firstBadIn (suc k) t n (drop 48 rows)) k
+firstBadIn k t (suc n) rows = if (recordSound t (take stride rows)) (firstBadIn (suc k) t n (drop stride rows)) k
 
 -- the plan in numbers
 abbrev pub numbersSound : List ℕ → Plan → List ℕ → Bool

@@ -2,7 +2,7 @@
 ghost use mathlib.Core.Path.{_≡_};
 ghost use Prim.Native.Nat.{_+_, _*_, _≤_, _<_};
 ghost use lib.ListN.{length};
-ghost use Rattle.fields.specs.Places.{kindAt, countOf};
+ghost use Rattle.fields.specs.Places.{kindAt, countOf, fieldCount, kindCount};
 ghost use Rattle.fields.specs.Columns.{limitColumn};
 ghost use Rattle.plan.specs.Numbers.{spansIn};
 ghost use Rattle.sound.specs.Judged.{fineFrom, clashAt, fineElement, absentFrom};
@@ -12,6 +12,7 @@ use fields::lookup::first_of;
 use fields::lookup::pair_one;
 use fields::lookup::pair_other;
 use fields::lookup::pairs_of;
+use fields::places::FIELDS;
 
 // Whether `count` spans from span j on are fit for as many fields of the table, from `first` on.
 pub fn fine_fields(
@@ -20,9 +21,9 @@ pub fn fine_fields(
     first: usize,
     count: usize,
     text: &[u8],
-    limits: &[u64; 52],
+    limits: &[u64; FIELDS],
 ) -> bool
-    requires { ⌜ (2 + 2 * (j + count) ≤ length (now numbers)) × (first + count ≤ 52) × (now limits ≡ limitColumn) ⌝ }
+    requires { ⌜ (2 + 2 * (j + count) ≤ length (now numbers)) × (first + count ≤ fieldCount) × (now limits ≡ limitColumn) ⌝ }
     ensures { λ r. ⌜ r ≡ fineFrom (now (text .entry)) first count j (now (numbers .entry)) ⌝ }
 {
     let mut i = 0;
@@ -59,7 +60,7 @@ pub fn all_absent(numbers: &[u32], j: usize, count: usize) -> bool
 
 // Whether two fields of an element that exclude each other are present; its spans stand from number k on.
 pub fn clashes(numbers: &[u32], k: usize, element: u8) -> bool
-    requires { ⌜ (element < 10) × (k + 2 * countOf (kindAt element) ≤ length (now numbers)) ⌝ }
+    requires { ⌜ (element < kindCount) × (k + 2 * countOf (kindAt element) ≤ length (now numbers)) ⌝ }
     ensures { λ r. ⌜ r ≡ clashAt (kindAt element) (now (numbers .entry)) k ⌝ }
 {
     let pairs = pairs_of(element);
@@ -80,8 +81,14 @@ pub fn clashes(numbers: &[u32], k: usize, element: u8) -> bool
 }
 
 // Whether the spans of an element, from span j on, lie within the text and show a good element.
-pub fn fine_element(numbers: &[u32], j: usize, element: u8, text: &[u8], limits: &[u64; 52]) -> bool
-    requires { ⌜ (element < 10) × (2 + 2 * (j + countOf (kindAt element)) ≤ length (now numbers)) × (now limits ≡ limitColumn) ⌝ }
+pub fn fine_element(
+    numbers: &[u32],
+    j: usize,
+    element: u8,
+    text: &[u8],
+    limits: &[u64; FIELDS],
+) -> bool
+    requires { ⌜ (element < kindCount) × (2 + 2 * (j + countOf (kindAt element)) ≤ length (now numbers)) × (now limits ≡ limitColumn) ⌝ }
     ensures { λ r. ⌜ r ≡ fineElement (now (text .entry)) (kindAt element) (spansIn (countOf (kindAt element)) j (now (numbers .entry))) ⌝ }
 {
     let first = first_of(element);

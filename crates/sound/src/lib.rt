@@ -4,6 +4,7 @@
 ghost use mathlib.Core.Path.{_≡_};
 ghost use Prim.Native.Nat.{_*_, _≤_};
 ghost use lib.ListN.{length};
+ghost use Rattle.plan.specs.Numbers.{stride};
 ghost use Rattle.sound.specs.Sound.{headSound, firstBadIn};
 
 pub mod elements;
@@ -32,7 +33,7 @@ pub fn head_sound(plan: Plan, text: &[u8]) -> bool
 
 // The first of the first n rows that is bad, counted from 1; 0 if none is.
 pub fn first_bad(rows: &[u32], n: usize, text: &[u8]) -> usize
-    requires { ⌜ n * 48 ≤ length (now rows) ⌝ }
+    requires { ⌜ n * stride ≤ length (now rows) ⌝ }
     ensures { λ r. ⌜ r ≡ firstBadIn 1 (now (text .entry)) n (now (rows .entry)) ⌝ }
 {
     let limits = limits();

@@ -8,20 +8,19 @@ ghost use Rattle.paper.specs.Lists.{same};
 ghost use Rattle.paper.specs.Values.{cut};
 ghost use Rattle.paper.specs.Rules.{isZero};
 ghost use Rattle.paper.specs.Writing.{decimal, goodSlot};
-ghost use Rattle.fields.specs.Places.{ruleAt, fieldAt};
+ghost use Rattle.fields.specs.Places.{ruleAt, fieldAt, fieldCount};
 ghost use Rattle.fields.specs.Columns.{limitColumn};
 ghost use Rattle.sound.specs.Judged.{goodValue, fineSpan};
 use fields::dose::is_zero;
 use fields::lookup::rule_in;
 use fields::numbers::spell;
+use fields::places::FIELDS;
+use fields::places::M_P;
 use fields::rules::value_flaw;
 use room::wide;
 
 // What `value_flaw` answers where nothing is wrong.
 const NO_FLAW: u8 = 9;
-
-// The place of M.p, the package number, in the table.
-const PACKAGE: usize = 33;
 
 // Whether a value ends with a space, which reading would cut.
 fn ends_blank(v: &[u8]) -> bool
@@ -43,8 +42,8 @@ fn is_as_read(v: &[u8], rule: u8) -> bool
 }
 
 // Whether the value from `from` up to `to` is good for the field at a place of the table, and is there if the field must be present.
-fn good_value(text: &[u8], from: usize, to: usize, id: usize, limits: &[u64; 52]) -> bool
-    requires { ⌜ (from ≤ to) × (to ≤ length (now text)) × (id < 52) × (now limits ≡ limitColumn) ⌝ }
+fn good_value(text: &[u8], from: usize, to: usize, id: usize, limits: &[u64; FIELDS]) -> bool
+    requires { ⌜ (from ≤ to) × (to ≤ length (now text)) × (id < fieldCount) × (now limits ≡ limitColumn) ⌝ }
     ensures { λ r. ⌜ r ≡ goodValue (fieldAt id) (slice from to (now (text .entry))) ⌝ }
 {
     if value_flaw(limits, id, text, from, to) != NO_FLAW {
@@ -57,8 +56,8 @@ fn good_value(text: &[u8], from: usize, to: usize, id: usize, limits: &[u64; 52]
 }
 
 // Whether a span lies within the text and shows a good value of the field at a place of the table; an absent one, whether the field may be absent.
-pub fn fine_value(text: &[u8], at: u32, len: u32, id: usize, limits: &[u64; 52]) -> bool
-    requires { ⌜ (id < 52) × (now limits ≡ limitColumn) ⌝ }
+pub fn fine_value(text: &[u8], at: u32, len: u32, id: usize, limits: &[u64; FIELDS]) -> bool
+    requires { ⌜ (id < fieldCount) × (now limits ≡ limitColumn) ⌝ }
     ensures { λ r. ⌜ r ≡ fineSpan (now (text .entry)) (fieldAt id) (record { at = at; len = len }) ⌝ }
 {
     if len == 0 {
@@ -73,11 +72,11 @@ pub fn fine_value(text: &[u8], at: u32, len: u32, id: usize, limits: &[u64; 52])
 }
 
 // Whether a package number is none, or one whose digits keep their field.
-pub fn good_package(n: u32, limits: &[u64; 52]) -> bool
+pub fn good_package(n: u32, limits: &[u64; FIELDS]) -> bool
     requires { ⌜ now limits ≡ limitColumn ⌝ }
     ensures { λ r. ⌜ r ≡ goodSlot (fieldAt 33) (decimal n) ⌝ }
 {
     let mut digits = [0u8; 9];
     let w = spell(n, &mut digits, 0);
-    good_value(&digits, 0, w, PACKAGE, limits)
+    good_value(&digits, 0, w, M_P, limits)
 }

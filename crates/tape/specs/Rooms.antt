@@ -6,6 +6,7 @@ use Prim.Native.Nat.{ℕ, _+_, _*_}
 use lib.ListN.{length}
 use Rattle.paper.specs.Lists.{concat}
 use Rattle.paper.specs.Fields.{fieldsOf}
+use Rattle.paper.specs.Sizes.{pageBytes}
 use Rattle.tape.specs.Tape.{Elem, header}
 
 -- how many numbers a page takes on a tape at most
@@ -14,7 +15,7 @@ tapeRoom = 4400
 
 -- how many bytes the values of a page have together at most
 abbrev pub sideRoom : ℕ
-sideRoom = 1400
+sideRoom = pageBytes
 
 -- how many numbers some elements take on a tape
 unfoldable pub width : List Elem → ℕ

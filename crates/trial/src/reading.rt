@@ -8,6 +8,7 @@
 ghost use mathlib.Core.Path.{_≡_};
 ghost use Prim.Native.Nat.{_+_, _*_, _≤_};
 ghost use lib.ListN.{length};
+ghost use Rattle.plan.specs.Numbers.{stride};
 use crate::lines::bytes;
 use crate::lines::end;
 use crate::lines::number;
@@ -74,7 +75,7 @@ fn tell_head(head: [Span; 27]) -> usize {
 
 // One row on a line.
 fn tell_row(rows: &[u32], i: usize)
-    requires { ⌜ (i + 1) * 48 ≤ length (now rows) ⌝ }
+    requires { ⌜ (i + 1) * stride ≤ length (now rows) ⌝ }
 {
     word(b"row");
     numbers(rows, i * Plan::STRIDE, i * Plan::STRIDE + Plan::STRIDE);
@@ -83,7 +84,7 @@ fn tell_row(rows: &[u32], i: usize)
 
 // The later of two ends in the text: one, and that of the row's last span.
 fn row_end(rows: &[u32], i: usize, before: usize) -> usize
-    requires { ⌜ (i + 1) * 48 ≤ length (now rows) ⌝ }
+    requires { ⌜ (i + 1) * stride ≤ length (now rows) ⌝ }
 {
     let mut last = before;
     let mut j = 0;
@@ -96,7 +97,7 @@ fn row_end(rows: &[u32], i: usize, before: usize) -> usize
 
 // The rows, a line each. Answers where the last span of head and rows ends in the text.
 fn tell_rows(rows: &[u32], count: usize, before: usize) -> usize
-    requires { ⌜ count * 48 ≤ length (now rows) ⌝ }
+    requires { ⌜ count * stride ≤ length (now rows) ⌝ }
 {
     let mut last = before;
     let mut i = 0;

@@ -9,6 +9,7 @@ use lib.ListN.{length, take}
 use Rattle.paper.specs.Lists.{if}
 use Rattle.paper.specs.Plan.{Row}
 use Rattle.paper.specs.Writing.{heading}
+use Rattle.paper.specs.Sizes.{pageBytes}
 use Rattle.writer.specs.Spelling.{rowText, rowsBetween}
 use Rattle.writer.specs.declared.cut.PageEnds.{PageEnds}
 
@@ -54,8 +55,8 @@ after i (stuck r) = stuck r
 -- "Each page takes as many rows as fit into 1,400 bytes": i rows are placed, the page has so many bytes, and k pages more may follow it
 unfoldable pub cutFrom : ℕ → ℕ → ℕ → ℕ → List ℕ → Cutting
 cutFrom base k i used [] = ends (i ∷ [])
-cutFrom base k i used (m ∷ ms) = if (leb (used + sizeIn m) 1400) (cutFrom base k (suc i) (used + sizeIn m) ms)
-    (if (eqb k 0) (stuck (suc i)) (if (leb (opens base m + sizeIn m) 1400) (after i (cutFrom base (k - 1) (suc i) (opens base m + sizeIn m) ms)) (stuck (suc i))))
+cutFrom base k i used (m ∷ ms) = if (leb (used + sizeIn m) pageBytes) (cutFrom base k (suc i) (used + sizeIn m) ms)
+    (if (eqb k 0) (stuck (suc i)) (if (leb (opens base m + sizeIn m) pageBytes) (after i (cutFrom base (k - 1) (suc i) (opens base m + sizeIn m) ms)) (stuck (suc i))))
 
 -- all rows, the first page opened for the first of them; "a plan without rows is one page"
 abbrev pub cutOf : ℕ → List ℕ → Cutting

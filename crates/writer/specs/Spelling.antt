@@ -7,7 +7,7 @@ use Rattle.paper.specs.Lists.{if}
 use Rattle.paper.specs.Fields.{MP, P, A, S}
 use Rattle.paper.specs.Plan.{Head, Row}
 use Rattle.paper.specs.Writing.{mpSlots, rowSlots, bare, opening, measuresText, bodyText, heading}
-use Rattle.plan.specs.Numbers.{showRows}
+use Rattle.plan.specs.Numbers.{showRows, stride}
 
 -- a row's own bytes: a heading's start tag, or a row that is no heading, whole
 unfoldable pub rowText : Row → List ℕ
@@ -23,4 +23,4 @@ headText h a z = opening MP (mpSlots h a z) (peopleText h)
 
 -- the rows that the records from one on up to another show, counted from 0
 abbrev pub rowsBetween : List ℕ → List ℕ → ℕ → ℕ → List Row
-rowsBetween t rows from to = showRows t (to - from) (drop (from * 48) rows)
+rowsBetween t rows from to = showRows t (to - from) (drop (from * stride) rows)

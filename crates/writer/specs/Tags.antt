@@ -10,6 +10,7 @@ use Rattle.paper.specs.Values.{escape}
 use Rattle.paper.specs.Plan.{Dose, scheme, freeText, unstated, Row}
 use Rattle.paper.specs.Layout.{shownAll}
 use Rattle.paper.specs.Writing.{attrsOf, printAttrs, decimal, heading}
+use Rattle.paper.specs.Calls.{pageRoom}
 use Rattle.plan.specs.declared.Dose as Code
 use Rattle.plan.specs.declared.Dose.the-variants.{Scheme, Free, Unstated}
 use Rattle.plan.specs.Numbers.{recordAt, paperSpan, absent, within, spanPlace}
@@ -100,4 +101,4 @@ Opened heads (c ∷ w) = length (gapText true heads) ≤ length (c ∷ w)
 
 -- the bytes stand at the beginning of a room, if the room of nine pages takes them
 abbrev pub Stays : List ℕ → List ℕ → Type 0
-Stays room w = length w ≤ 12600 → take (length w) room ≡ w
+Stays room w = length w ≤ pageRoom → take (length w) room ≡ w

@@ -2,6 +2,7 @@
 ghost use mathlib.Core.Path.{_≡_};
 ghost use Prim.Native.Nat.{_≤_, _<_};
 ghost use lib.ListN.{take};
+ghost use Rattle.paper.specs.Sizes.{pageBytes};
 ghost use Rattle.writer.specs.Cutting.{sizeIn, opens, cutOf, Tells};
 use plan::Plan;
 
@@ -22,7 +23,7 @@ pub fn size_in(m: u32) -> usize
 
 // The bytes that a page has before its first row, whose number is m: a page without rows has `base`, and an S that no heading opens has `<S>` and `</S>`.
 fn opened(base: usize, m: u32) -> usize
-    requires { ⌜ base ≤ 1400 ⌝ }
+    requires { ⌜ base ≤ pageBytes ⌝ }
     ensures { λ r. ⌜ (r ≡ opens base m) × (r ≤ 1407) ⌝ }
 {
     if m % 2 == 1 {
@@ -44,7 +45,7 @@ fn no_place(row: usize) -> PageEnds
 
 // Cuts the first n rows: each page takes as many as fit into 1,400 bytes. The number of a row is twice what it adds to a page, and one more for a heading.
 pub fn cut_rows(base: usize, measures: [u32; Plan::ROWS], n: usize) -> PageEnds
-    requires { ⌜ (base ≤ 1400) × (n ≤ 256) ⌝ }
+    requires { ⌜ (base ≤ pageBytes) × (n ≤ 256) ⌝ }
     ensures { λ r. ⌜ Tells r (cutOf base (take n measures)) ⌝ }
 {
     let mut ends = [0usize; 9];

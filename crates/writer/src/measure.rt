@@ -8,7 +8,7 @@ ghost use lib.ListN.{length, take};
 ghost use Rattle.paper.specs.Writing.{page};
 ghost use Rattle.room.specs.Laid.{laid};
 ghost use Rattle.fields.specs.Columns.{keyColumn};
-ghost use Rattle.plan.specs.Numbers.{recordAt, showRow, showRows, showHead};
+ghost use Rattle.plan.specs.Numbers.{recordAt, showRow, showRows, showHead, stride};
 ghost use Rattle.sound.specs.Sound.{headSound, recordSound, recordsSound};
 ghost use Rattle.writer.specs.Cutting.{measureOf};
 ghost use Rattle.writer.specs.Tags.{placedText, rowsPlaced, Stays};
@@ -54,7 +54,7 @@ fn row_measure(
     at: usize,
 ) -> u32
     requires { ⌜ (now keys ≡ keyColumn)
-        × ((i + 1) * 48 ≤ length (now rows))
+        × ((i + 1) * stride ≤ length (now rows))
         × (recordSound (now text) (recordAt (now rows) i) ≡ true)
         × (at + 8196 ≤ length (now scratch)) ⌝ }
     ensures { λ r. ⌜ (r ≡ measureOf (showRow (now (text .entry)) (recordAt (now (rows .entry)) i)))
@@ -71,7 +71,7 @@ fn row_measure(
 
 // The numbers of the first n rows for the cut. Up to the room of nine pages the rows stay in the scratch room, one behind the other.
 pub fn row_measures(rows: &[u32], n: usize, text: &[u8], scratch: &mut [u8]) -> [u32; Plan::ROWS]
-    requires { ⌜ (n ≤ 256) × (n * 48 ≤ length (now rows)) × (recordsSound (now text) n (now rows) ≡ true) × (20800 ≤ length (now scratch)) ⌝ }
+    requires { ⌜ (n ≤ 256) × (n * stride ≤ length (now rows)) × (recordsSound (now text) n (now rows) ≡ true) × (20800 ≤ length (now scratch)) ⌝ }
     ensures { λ r. ⌜ (take n r ≡ map measureOf (showRows (now (text .entry)) n (now (rows .entry))))
         × Stays (now (scratch .exit)) (rowsPlaced (showRows (now (text .entry)) n (now (rows .entry)))) ⌝ }
 {

@@ -8,7 +8,7 @@ ghost use lib.ListN.{length};
 ghost use Rattle.paper.specs.Lists.{every};
 ghost use Rattle.paper.specs.Fields.{S, is};
 ghost use Rattle.fields.specs.Columns.{keyColumn};
-ghost use Rattle.plan.specs.Numbers.{recordAt, showRow, showHead, inText, within};
+ghost use Rattle.plan.specs.Numbers.{recordAt, showRow, showHead, inText, within, stride};
 ghost use Rattle.plan.specs.Records.{paperKind, paperDose};
 ghost use Rattle.sound.specs.Sound.{headSound, recordSound};
 ghost use Rattle.room.specs.Written.{Wrote};
@@ -19,6 +19,21 @@ use crate::tags::lay_field;
 use crate::tags::lay_fields;
 use crate::tags::lay_number;
 use crate::tags::lay_tag;
+use fields::places::A_LANR;
+use fields::places::M_A;
+use fields::places::M_D;
+use fields::places::M_DU;
+use fields::places::M_H;
+use fields::places::M_M;
+use fields::places::M_T;
+use fields::places::M_V;
+use fields::places::MP_U;
+use fields::places::O_AI;
+use fields::places::P_G;
+use fields::places::R_T;
+use fields::places::S_C;
+use fields::places::W_W;
+use fields::places::X_T;
 use plan::Dose;
 use plan::Kind;
 use plan::Plan;
@@ -27,37 +42,6 @@ use plan::kind_at;
 use plan::row_at;
 use room::lay;
 use sound::elements::all_absent;
-
-// Places in the table: U of MP, and the first fields of P, A, O and S; of M a, the four times of day, the free text and du; the first fields of W, R and X.
-const MP_U: usize = 2;
-
-const P_G: usize = 6;
-
-const A_LANR: usize = 14;
-
-const O_AI: usize = 24;
-
-const S_C: usize = 31;
-
-const M_A: usize = 34;
-
-const M_M: usize = 37;
-
-const M_D: usize = 38;
-
-const M_V: usize = 39;
-
-const M_H: usize = 40;
-
-const M_T: usize = 41;
-
-const M_DU: usize = 42;
-
-const W_W: usize = 47;
-
-const R_T: usize = 49;
-
-const X_T: usize = 51;
 
 // Writes the attributes of a dose: the times of day that are present, or the free text, or nothing.
 fn lay_dose(out: &mut [u8], at: usize, keys: &[u64], dose: Dose, text: &[u8]) -> usize
@@ -131,7 +115,7 @@ fn lay_medication(
     text: &[u8],
 ) -> usize
     requires { ⌜ (now keys ≡ keyColumn)
-        × ((i + 1) * 48 ≤ length (now rows))
+        × ((i + 1) * stride ≤ length (now rows))
         × (inText (now text) (recordAt (now rows) i) ≡ true)
         × (at + length (medicationText (now text) (now rows) i) ≤ length (now out)) ⌝ }
     ensures { λ r. ⌜ Wrote (now (out .entry)) (now (out .exit)) at r (medicationText (now (text .entry)) (now (rows .entry)) i) ⌝ }
@@ -160,7 +144,7 @@ fn lay_kind(
     text: &[u8],
 ) -> usize
     requires { ⌜ (now keys ≡ keyColumn)
-        × ((i + 1) * 48 ≤ length (now rows))
+        × ((i + 1) * stride ≤ length (now rows))
         × (recordSound (now text) (recordAt (now rows) i) ≡ true)
         × (paperKind kind ≡ showRow (now text) (recordAt (now rows) i) .kind)
         × (at + length (rowText (showRow (now text) (recordAt (now rows) i))) ≤ length (now out)) ⌝ }
@@ -310,7 +294,7 @@ pub fn lay_placed(
     text: &[u8],
 ) -> usize
     requires { ⌜ (now keys ≡ keyColumn)
-        × ((i + 1) * 48 ≤ length (now rows))
+        × ((i + 1) * stride ≤ length (now rows))
         × (recordSound (now text) (recordAt (now rows) i) ≡ true)
         × (at + length (placedText inside (showRow (now text) (recordAt (now rows) i))) ≤ length (now out)) ⌝ }
     ensures { λ r. ⌜ Wrote (now (out .entry)) (now (out .exit)) at r (placedText inside (showRow (now (text .entry)) (recordAt (now (rows .entry)) i))) ⌝ }

@@ -12,7 +12,7 @@ ghost use Rattle.paper.specs.Values.{esc, escape};
 ghost use Rattle.paper.specs.Layout.{shown};
 ghost use Rattle.paper.specs.Writing.{decimal};
 ghost use Rattle.room.specs.Laid.{laid};
-ghost use Rattle.fields.specs.Places.{nameOf};
+ghost use Rattle.fields.specs.Places.{nameOf, fieldCount};
 ghost use Rattle.fields.specs.Columns.{keyColumn};
 ghost use Rattle.plan.specs.Numbers.{within, paperSpan};
 ghost use Rattle.room.specs.Written.{Wrote};
@@ -112,7 +112,7 @@ pub fn lay_fields(
     from: usize,
 ) -> usize
     requires { ⌜ (now keys ≡ keyColumn)
-        × (first + count ≤ 52)
+        × (first + count ≤ fieldCount)
         × (from + 2 * count ≤ length (now numbers))
         × (every (within (length (now text))) (spansAt count from (now numbers)) ≡ true)
         × (at + length (fieldsText first count (now text) from (now numbers)) ≤ length (now out)) ⌝ }
@@ -160,7 +160,7 @@ pub fn lay_tag(
     end: &[u8],
 ) -> usize
     requires { ⌜ (now keys ≡ keyColumn)
-        × (first + count ≤ 52)
+        × (first + count ≤ fieldCount)
         × (from + 2 * count ≤ length (now numbers))
         × (every (within (length (now text))) (spansAt count from (now numbers)) ≡ true)
         × (at + length (tagText (now begin) first count (now text) from (now numbers) (now end)) ≤ length (now out)) ⌝ }

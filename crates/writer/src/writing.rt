@@ -10,7 +10,7 @@ ghost use Rattle.paper.specs.Fields.{S, is};
 ghost use Rattle.paper.specs.Calls.{pageRoom};
 ghost use Rattle.paper.specs.Writing.{pages};
 ghost use Rattle.room.specs.Laid.{laid};
-ghost use Rattle.plan.specs.Numbers.{rowsLent, recordAt, kindShown, showRows, showHead, padded};
+ghost use Rattle.plan.specs.Numbers.{rowsLent, recordAt, kindShown, showRows, showHead, padded, stride};
 ghost use Rattle.plan.specs.Records.{paperKind, codeKind};
 ghost use Rattle.sound.specs.Sound.{headSound};
 ghost use Rattle.writer.specs.Tags.{rowsPlaced};
@@ -78,7 +78,7 @@ fn sizes_between(measures: &[u32], from: usize, to: usize) -> usize
 
 // Whether the rows `from` up to `to` begin with a heading.
 fn begins_section(rows: &[u32], from: usize, to: usize) -> bool
-    requires { ⌜ (from ≤ to) × (to * 48 ≤ length (now rows)) ⌝ }
+    requires { ⌜ (from ≤ to) × (to * stride ≤ length (now rows)) ⌝ }
     ensures { λ r. ⌜ (from < to → r ≡ is (paperKind (codeKind (kindShown (getD (recordAt (now (rows .entry)) from) 0 0)))) S) ⌝ }
 {
     if from == to {
@@ -100,7 +100,7 @@ fn lay_pages(
     text: &[u8],
     spelt: &[u8],
 ) -> [u32; 9]
-    requires { ⌜ (headSound (now text) plan ≡ true) × (n * 48 ≤ length (now rows)) × (n ≤ 256) × (z ≤ 9)
+    requires { ⌜ (headSound (now text) plan ≡ true) × (n * stride ≤ length (now rows)) × (n ≤ 256) × (z ≤ 9)
         × Rising 0 (take z ends) n
         × (length (concat (pages (showHead (now text) plan) z 1 (parted (now text) (now rows) 0 (take z ends)))) ≤ pageRoom) × (pageRoom ≤ length (now out))
         × (take n measures ≡ map measureOf (showRows (now text) n (now rows)))
