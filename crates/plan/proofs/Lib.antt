@@ -3,6 +3,7 @@ pub mod Records
 pub mod Spans
 pub mod Numbered
 pub mod Shown
+pub mod Sameness
 pub mod Parts
 pub mod Doses
 pub mod Worked

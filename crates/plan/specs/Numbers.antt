@@ -12,6 +12,7 @@
 -- A row's spans are its element's fields in writing order, M.p left out: of a heading c t; of a medication a f fd m d v h t du dud i r x (spans 0 to 12),
 -- then w and s of its first, second and third W (spans 13 to 18); of a recipe t x; of a note t. Spans that the kind does not have are 0.
 -- Assumes nothing.
+use mathlib.Core.Path.{_≡_}
 use mathlib.Core.Bool.{Bool, true, _&&_, _||_}
 use mathlib.Core.List.{List, [], _∷_, _++_, map}
 use Prim.Native.Nat.{ℕ, zero, suc, _+_, _*_, _/_}
@@ -119,6 +120,17 @@ showHead t p = headWith (p .patch) (shownAll t (map paperSpan (p .head)))
 -- the plan that numbers show: the text, the head's spans, and the rows
 abbrev pub showPlan : List ℕ → Plan → List ℕ → Paper.Plan
 showPlan t p rows = record { head = showHead t p; rows = showRows t (p .rows) rows }
+
+-- ---- when rows are the same
+
+-- how many numbers of a record have a say: its kind, its package number and its spans. The others are kept for the row's origin, or at 0.
+abbrev pub saying : ℕ
+saying = 40
+
+-- n rows are the same: of each record the numbers that have a say are equal
+abbrev pub SameRows : ℕ → List ℕ → List ℕ → Type 0
+SameRows zero rows rows′ = Unit {0}
+SameRows (suc n) rows rows′ = (take saying rows ≡ take saying rows′) × SameRows n (drop stride rows) (drop stride rows′)
 
 -- ---- what must hold of numbers beside the rules for the plan that they show
 

@@ -25,8 +25,9 @@ use Rattle.paper.proofs.CallLaws.{reads-pages}
 use Rattle.paper.proofs.ReadSound.{read-sound}
 use Rattle.paper.proofs.Writer as Writer
 use Rattle.paper.proofs.Writer.{FirstUncut}
-use Rattle.plan.specs.Numbers.{rowsLent, showPlan, planRows}
+use Rattle.plan.specs.Numbers.{rowsLent, showHead, showPlan, planRows, SameRows}
 use Rattle.plan.proofs.Shown.{sound-back}
+use Rattle.plan.proofs.Sameness.{rows-same, equal-same}
 use Rattle.reader.specs.Answers.{numbersOf}
 use Rattle.reader.specs.Promise as Reads
 use Rattle.reader.specs.declared.answer.Answer.the-variants.{Plan}
@@ -45,6 +46,12 @@ Took rows text b ss ns q rows′ text′ = Reads.Promised (Reads.answered rows t
 -- room for 256 rows and 12,600 bytes of text
 abbrev pub Enough : List ℕ → List ℕ → Type 0
 Enough rows text = (12288 ≤ length rows) × (12600 ≤ length text)
+
+-- what two calls of `read` gave is the same plan: the answer with the head's spans and the number of rows, the rows, and the text
+pub record SamePlan (q₁ q₂ : Reading) (rows₁ rows₂ text₁ text₂ : List ℕ) : Type 0 where
+  pub result : q₁ ≡ q₂
+  pub rows : SameRows (q₁ .plan .rows) rows₁ rows₂
+  pub text : text₁ ≡ text₂
 
 -- the pages of a call were accepted: they are written, or too long
 abbrev pub Accepted : Fresh → Type 0
@@ -71,6 +78,15 @@ took-as rows text b ss ns q rows′ text′ h R = subst (λ (a : Paper.Answer). 
 pub took-shows : (rows text : List ℕ) (p : Said.Plan) (q : Reading) (rows′ text′ : List ℕ) → sound p ≡ true → Reads.Promised (Paper.plan p) rows text q rows′ text′ → showPlan text′ (q .plan) rows′ ≡ p
 took-shows rows text p q rows′ text′ s R =
     rw (R .plan-is, R .rows-are, R .text-is) (sound-back p (drop (0 + length (textOf p)) text) (drop (0 + length (planRows p)) rows) s)
+
+-- the same numbers are the same plan
+same-plan : {q q′ : Reading} {rows rows′ text text′ : List ℕ} → Same q q′ rows rows′ text text′ → SamePlan q q′ rows rows′ text text′
+same-plan {q} {q′} {rows} {rows′} s = record { result = s .result; rows = equal-same (q .plan .rows) rows rows′ (s .rows); text = s .text }
+
+-- and the same plan shows the same
+shows-same : {q q′ : Reading} {rows rows′ text text′ : List ℕ} → SamePlan q q′ rows rows′ text text′ → showPlan text (q .plan) rows ≡ showPlan text′ (q′ .plan) rows′
+shows-same {q} {q′} {rows} {rows′} {text} {text′} s =
+    ap (λ (rs : List Said.Row). record { head = showHead text (q .plan); rows = rs }) (rows-same text (q .plan .rows) rows rows′ (s .rows)) ∙ rw (s .result, s .text)
 
 said : Said.Plan → Paper.Answer → Said.Plan
 said d (Paper.refusal n k i) = d
@@ -187,15 +203,15 @@ module _ (out b ss ns : List ℕ) (r : Fresh) (out′ : List ℕ) (F : Gives out
 
   module _ (z : r .number ≡ 0) (buffer : List ℕ) (g : Begins r out′ buffer) where
     -- Fresh pages handed to `read` give the plan back, slot for slot: from a buffer that begins with them, by the lengths told and in rooms that are enough,
-    -- `read` answers with a plan; its `Plan`, its rows and its text are those that it gives for the first pages in the same rooms.
+    -- `read` answers with a plan; it is the same as the one that it gives for the first pages in the same rooms.
     pub given-back : (rows text : List ℕ) (q q₂ : Reading) (rows₁ rows₂ text₁ text₂ : List ℕ) → Enough rows text → Took rows text b ss ns q rows₁ text₁
-        → Took rows text buffer (startsTold r) (lensTold r) q₂ rows₂ text₂ → (q₂ .answer ≡ Plan) × Same q₂ q rows₂ rows₁ text₂ text₁
+        → Took rows text buffer (startsTold r) (lensTold r) q₂ rows₂ text₂ → (q₂ .answer ≡ Plan) × SamePlan q₂ q rows₂ rows₁ text₂ text₁
     given-back rows text q q₂ rows₁ rows₂ text₁ text₂ h R R₂ =
         let G = freshly out b ss ns r out′ F z in
         let first = sym (roomy-call out b ss ns (plan-roomy out b ss ns (G .plan) (G .is-plan))) ∙ G .is-plan in
         let T = subst (λ (a : Paper.Answer). Reads.Promised a rows text q rows₁ text₁) first (took-as rows text b ss ns q rows₁ text₁ h R) in
         let T₂ = subst (λ (a : Paper.Answer). Reads.Promised a rows text q₂ rows₂ text₂) (read-back (G .holds) buffer g) (took-as rows text buffer (startsTold r) (lensTold r) q₂ rows₂ text₂ h R₂) in
-        (T₂ .answer-is, Read.once (Paper.plan (G .plan)) rows text q₂ q rows₂ rows₁ text₂ text₁ T₂ T)
+        (T₂ .answer-is, same-plan (Read.once (Paper.plan (G .plan)) rows text q₂ q rows₂ rows₁ text₂ text₁ T₂ T))
 
     module _ (out₂ : List ℕ) (r₂ : Fresh) (out₂′ : List ℕ) (h : 12600 ≤ length out₂) (F₂ : Gives out₂ buffer (startsTold r) (lensTold r) r₂ out₂′) where
       again : Holds (freshly out b ss ns r out′ F z .plan) out₂ r₂ out₂′
@@ -227,9 +243,9 @@ module _ (out b ss ns : List ℕ) (r : Fresh) (out′ : List ℕ) (F : Gives out
   same-exactly p p₂ e e₂ =
       same-in (holds out b ss ns r out′ F p e z) (holds out₂ b₂ ss₂ ns₂ r₂ out₂′ F₂ p₂ e₂ z₂)
 
-  -- The same in what `read` lays out: they have equal fresh pages exactly when, in the same rooms, their `Plan`, their rows and their texts are the same.
+  -- The same in what `read` lays out: they have equal fresh pages exactly when, in the same rooms, it gives the same plan for both.
   pub same-read : (rows text : List ℕ) (q q₂ : Reading) (rows₁ rows₂ text₁ text₂ : List ℕ) → Enough rows text → Took rows text b ss ns q rows₁ text₁
-      → Took rows text b₂ ss₂ ns₂ q₂ rows₂ text₂ → (pagesIn r out′ ≡ pagesIn r₂ out₂′) ↔ Same q q₂ rows₁ rows₂ text₁ text₂
+      → Took rows text b₂ ss₂ ns₂ q₂ rows₂ text₂ → (pagesIn r out′ ≡ pagesIn r₂ out₂′) ↔ SamePlan q q₂ rows₁ rows₂ text₁ text₂
   same-read rows text q q₂ rows₁ rows₂ text₁ text₂ h R R₂ = (λ e. there (both .0 e), λ s. both .1 (back s))
     where
       G : Freshly out b ss ns r out′
@@ -247,13 +263,13 @@ module _ (out b ss ns : List ℕ) (r : Fresh) (out′ : List ℕ) (F : Gives out
       T₂ : Reads.Promised (Paper.plan (G₂ .plan)) rows text q₂ rows₂ text₂
       T₂ = subst (λ (a : Paper.Answer). Reads.Promised a rows text q₂ rows₂ text₂) (sym (roomy-call out₂ b₂ ss₂ ns₂ (plan-roomy out₂ b₂ ss₂ ns₂ (G₂ .plan) (G₂ .is-plan))) ∙ G₂ .is-plan) (took-as rows text b₂ ss₂ ns₂ q₂ rows₂ text₂ h R₂)
 
-      there : G .plan ≡ G₂ .plan → Same q q₂ rows₁ rows₂ text₁ text₂
-      there e = Read.once (Paper.plan (G .plan)) rows text q q₂ rows₁ rows₂ text₁ text₂ T (subst (λ (p : Said.Plan). Reads.Promised (Paper.plan p) rows text q₂ rows₂ text₂) (sym e) T₂)
+      there : G .plan ≡ G₂ .plan → SamePlan q q₂ rows₁ rows₂ text₁ text₂
+      there e = same-plan (Read.once (Paper.plan (G .plan)) rows text q q₂ rows₁ rows₂ text₁ text₂ T (subst (λ (p : Said.Plan). Reads.Promised (Paper.plan p) rows text q₂ rows₂ text₂) (sym e) T₂))
 
-      back : Same q q₂ rows₁ rows₂ text₁ text₂ → G .plan ≡ G₂ .plan
+      back : SamePlan q q₂ rows₁ rows₂ text₁ text₂ → G .plan ≡ G₂ .plan
       back s =
           sym (took-shows rows text (G .plan) q rows₁ text₁ (plan-sound out b ss ns r out′ F (G .plan) (G .is-plan) .0) T)
-          ∙ (rw (s .result, s .rows, s .text) (took-shows rows text (G₂ .plan) q₂ rows₂ text₂ (plan-sound out₂ b₂ ss₂ ns₂ r₂ out₂′ F₂ (G₂ .plan) (G₂ .is-plan) .0) T₂))
+          ∙ shows-same s ∙ took-shows rows text (G₂ .plan) q₂ rows₂ text₂ (plan-sound out₂ b₂ ss₂ ns₂ r₂ out₂′ F₂ (G₂ .plan) (G₂ .is-plan) .0) T₂
 
 -- ---- spelling, cut and order
 
