@@ -127,7 +127,7 @@ pub fn keeps_rule(rule: u8, v: &[u8]) -> bool
     }
 }
 
-// Whether a value has a length and a form that its field allows.
+// Whether a value has a length and a form that its field allows; most values are free text, which has no form.
 pub fn keeps_form(limits: &[u64; FIELDS], id: usize, v: &[u8]) -> bool
     requires { ⌜ (now limits ≡ limitColumn) × (id < fieldCount) ⌝ }
     ensures { λ r. ⌜ r ≡ formed (fieldAt id) (now (v .entry)) ⌝ }
@@ -138,7 +138,11 @@ pub fn keeps_form(limits: &[u64; FIELDS], id: usize, v: &[u8]) -> bool
     if v.len() > most_in(limits, id) {
         return false;
     }
-    keeps_rule(rule_in(limits, id), v)
+    let rule = rule_in(limits, id);
+    if rule == 0 {
+        return true;
+    }
+    keeps_rule(rule, v)
 }
 
 // Whether a present value keeps its field, with the limits of the table handed down by a caller that copies them once.

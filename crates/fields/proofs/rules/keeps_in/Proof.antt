@@ -26,10 +26,14 @@ keeps-form-requires : tie.Need-keeps-form-requires
 keeps-form-requires c κs = search needs
 
 returns : tie.Need-returns
-returns c = c .keeps-form .ensures ∙ keeps-by (fieldAt (c .before .before .before .before .before .args .id)) (c .before .before .before .before .before .args .v .now) (sym (text-is (c .before .before)) ∙ c .before .if1 .taken)
+returns c =
+    let start = c .before .before .before .before .before in
+    c .keeps-form .ensures ∙ keeps-by (fieldAt (start .args .id)) (start .args .v .now) (sym (text-is (c .before .before)) ∙ c .before .if1 .taken)
 
 returns-2 : tie.Need-returns-2
-returns-2 c = keeps-none (fieldAt (c .before .before .before .before .args .id)) (c .before .before .before .before .args .v .now) (sym (text-is (c .before)) ∙ c .if1 .left)
+returns-2 c =
+    let start = c .before .before .before .before in
+    keeps-none (fieldAt (start .args .id)) (start .args .v .now) (sym (text-is (c .before)) ∙ c .if1 .left)
 
 pub keeps-in-spec : {M : Type 1} → statement M
 keeps-in-spec =

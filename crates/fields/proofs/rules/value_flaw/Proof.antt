@@ -18,10 +18,14 @@ must-in-requires : tie.Need-must-in-requires
 must-in-requires c κs = search needs
 
 returns : tie.Need-returns
-returns c = flaw-missing (fieldAt (c .before .before .before .before .args .id)) (slice (c .before .before .before .before .args .from) (c .before .before .before .before .args .to) (c .before .before .before .before .args .text .now)) (part-empty _ _ _ (c .before .before .if1 .taken)) (sym (c .before .must-in .ensures) ∙ c .if2 .taken)
+returns c =
+    let start = c .before .before .before .before in
+    flaw-missing (fieldAt (start .args .id)) (slice (start .args .from) (start .args .to) (start .args .text .now)) (part-empty _ _ _ (c .before .before .if1 .taken)) (sym (c .before .must-in .ensures) ∙ c .if2 .taken)
 
 returns-2 : tie.Need-returns-2
-returns-2 c = flaw-absent (fieldAt (c .before .before .before .before .args .id)) (slice (c .before .before .before .before .args .from) (c .before .before .before .before .args .to) (c .before .before .before .before .args .text .now)) (part-empty _ _ _ (c .before .before .if1 .taken)) (sym (c .before .must-in .ensures) ∙ c .if2 .left)
+returns-2 c =
+    let start = c .before .before .before .before in
+    flaw-absent (fieldAt (start .args .id)) (slice (start .args .from) (start .args .to) (start .args .text .now)) (part-empty _ _ _ (c .before .before .if1 .taken)) (sym (c .before .must-in .ensures) ∙ c .if2 .left)
 
 sub-keeps-in : tie.Need-sub-keeps-in
 sub-keeps-in c = search needs
@@ -36,10 +40,14 @@ keeps-in-requires : tie.Need-keeps-in-requires
 keeps-in-requires c κs = search needs
 
 returns-3 : tie.Need-returns-3
-returns-3 c = flaw-kept (fieldAt (c .before .before .before .before .before .args .id)) (slice (c .before .before .before .before .before .args .from) (c .before .before .before .before .before .args .to) (c .before .before .before .before .before .args .text .now)) (part-some (c .before .before .before .before .before .args .text .now) _ _ (c .before .before .before .before .before .pre .2) (c .before .before .before .before .before .pre .3) (c .before .before .before .if1 .left)) (sym (kept (c .before)) ∙ c .if3 .taken)
+returns-3 c =
+    let start = c .before .before .before .before .before in
+    flaw-kept (fieldAt (start .args .id)) (slice (start .args .from) (start .args .to) (start .args .text .now)) (part-some (start .args .text .now) _ _ (start .pre .2) (start .pre .3) (c .before .before .before .if1 .left)) (sym (kept (c .before)) ∙ c .if3 .taken)
 
 returns-4 : tie.Need-returns-4
-returns-4 c = flaw-broken (fieldAt (c .before .before .before .before .before .args .id)) (slice (c .before .before .before .before .before .args .from) (c .before .before .before .before .before .args .to) (c .before .before .before .before .before .args .text .now)) (part-some (c .before .before .before .before .before .args .text .now) _ _ (c .before .before .before .before .before .pre .2) (c .before .before .before .before .before .pre .3) (c .before .before .before .if1 .left)) (sym (kept (c .before)) ∙ c .if3 .left)
+returns-4 c =
+    let start = c .before .before .before .before .before in
+    flaw-broken (fieldAt (start .args .id)) (slice (start .args .from) (start .args .to) (start .args .text .now)) (part-some (start .args .text .now) _ _ (start .pre .2) (start .pre .3) (c .before .before .before .if1 .left)) (sym (kept (c .before)) ∙ c .if3 .left)
 
 pub value-flaw-spec : {M : Type 1} → statement M
 value-flaw-spec =

@@ -32,7 +32,9 @@ next : (c : tie.In-loop Inv-loop μ-loop) → Step (c .before .before .before .b
 next c = step _ _ _ _ _ _ (c .before .loop .inv .lies) (c .loop-test .taken)
 
 loop-holds : tie.Need-loop-holds Inv-loop μ-loop
-loop-holds c = let w = c .before .before .before .args .page .now in let e = ap length (rows-by (tagsAt w 0)) in record { rest = elemsOf w; lies = c .before .before .before .pre .taped .lies; low = omega arith; small = omega arith; so = omega (arith, e) }
+loop-holds c =
+    let start = c .before .before .before in
+    let w = start .args .page .now in let e = ap length (rows-by (tagsAt w 0)) in record { rest = elemsOf w; lies = start .pre .taped .lies; low = omega arith; small = omega arith; so = omega (arith, e) }
 
 mul-kind : tie.Need-mul-kind Inv-loop μ-loop
 mul-kind c = search needs
@@ -65,13 +67,16 @@ add-count : tie.Need-add-count Inv-loop μ-loop
 add-count c = omega (arith, c .before .before .before .before .before .loop .inv .small)
 
 loop-less : tie.Need-loop-less Inv-loop μ-loop
-loop-less c = let N = next (c .before .before .before .before) in omega (arith, N .wide, c .before .before .before .before .loop-test .taken)
+loop-less c =
+    let at-loop-test = c .before .before .before .before in
+    let N = next at-loop-test in omega (arith, N .wide, at-loop-test .loop-test .taken)
 
 loop-again : tie.Need-loop-again Inv-loop μ-loop
 loop-again c =
+    let at-loop = c .before .before .before .before .before in
     let N = next (c .before .before .before .before) in
-    let v = c .before .before .before .before .before .loop .inv in
-    let g = c .before .before .shared-slice-known5 .given (c .before .before .before .before .before .loop .f + 2) in
+    let v = at-loop .loop .inv in
+    let g = c .before .before .shared-slice-known5 .given (at-loop .loop .f + 2) in
     record {
       rest = N .rest;
       lies = N .behind-it;
@@ -81,7 +86,9 @@ loop-again c =
     }
 
 loop-less-2 : tie.Need-loop-less-2 Inv-loop μ-loop
-loop-less-2 c = let N = next (c .before .before .before .before) in omega (arith, N .wide, c .before .before .before .before .loop-test .taken)
+loop-less-2 c =
+    let at-loop-test = c .before .before .before .before in
+    let N = next at-loop-test in omega (arith, N .wide, at-loop-test .loop-test .taken)
 
 loop-again-2 : tie.Need-loop-again-2 Inv-loop μ-loop
 loop-again-2 c =

@@ -115,7 +115,9 @@ add-k c =
     omega (arith, s, c .before .before .before .before .before .before .before .before .before .before .before .loop .inv .filling .rows-so .long, S .good)
 
 loop-less : tie.Need-loop-less Inv-loop μ-loop
-loop-less c = let N = next (c .before .before .before .before .before .before .before .before .before .before) in omega (arith, N .wide, c .before .before .before .before .before .before .before .before .before .before .loop-test .taken)
+loop-less c =
+    let at-loop-test = c .before .before .before .before .before .before .before .before .before .before in
+    let N = next at-loop-test in omega (arith, N .wide, at-loop-test .loop-test .taken)
 
 loop-again : tie.Need-loop-again Inv-loop μ-loop
 loop-again c =
@@ -151,7 +153,9 @@ add-k-2 c =
     omega (arith, s, c .before .before .before .before .before .before .before .before .before .before .before .before .before .loop .inv .filling .rows-so .long, S .good)
 
 loop-less-2 : tie.Need-loop-less-2 Inv-loop μ-loop
-loop-less-2 c = let N = next (c .before .before .before .before .before .before .before .before .before .before .before .before) in omega (arith, N .wide, c .before .before .before .before .before .before .before .before .before .before .before .before .loop-test .taken)
+loop-less-2 c =
+    let at-loop-test = c .before .before .before .before .before .before .before .before .before .before .before .before in
+    let N = next at-loop-test in omega (arith, N .wide, at-loop-test .loop-test .taken)
 
 loop-again-2 : tie.Need-loop-again-2 Inv-loop μ-loop
 loop-again-2 c =
@@ -165,7 +169,9 @@ loop-again-2 c =
     }
 
 loop-less-3 : tie.Need-loop-less-3 Inv-loop μ-loop
-loop-less-3 c = let N = next (c .before .before .before .before .before) in omega (arith, N .wide, c .before .before .before .before .before .loop-test .taken)
+loop-less-3 c =
+    let at-loop-test = c .before .before .before .before .before in
+    let N = next at-loop-test in omega (arith, N .wide, at-loop-test .loop-test .taken)
 
 loop-again-3 : tie.Need-loop-again-3 Inv-loop μ-loop
 loop-again-3 c =

@@ -35,7 +35,9 @@ unfolding givesRow kindAt
 returns-3 c = rw (c .if3 .taken)
 
 returns-4 : tie.Need-returns-4
-returns-4 c = sym (no-row (c .before .before .before .before .before .before .before .args .kind) _ (c .before .before .before .before .before .before .before .pre .0) (c .before .before .before .if1 .left) (c .before .before .if2 .left) (c .before .if3 .left) (c .if4 .taken))
+returns-4 c =
+    let start = c .before .before .before .before .before .before .before in
+    sym (no-row (start .args .kind) _ (start .pre .0) (c .before .before .before .if1 .left) (c .before .before .if2 .left) (c .before .if3 .left) (c .if4 .taken))
 
 mul-value-of : tie.Need-mul-value-of
 mul-value-of c = search needs

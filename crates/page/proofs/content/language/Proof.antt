@@ -9,7 +9,9 @@ use Rattle.page.proofs.content.language.Tie as tie
 use borrow.Author.Needs.{needs}
 
 add-s : tie.Need-add-s
-add-s c = omega (arith, mp-within (c .before .before .before .before .pre), c .before .before .before .before .good)
+add-s c =
+    let start = c .before .before .before .before in
+    omega (arith, mp-within (start .pre), start .good)
 
 mul-value-of : tie.Need-mul-value-of
 mul-value-of c = search needs
@@ -21,7 +23,9 @@ cast-value-of : tie.Need-cast-value-of
 cast-value-of c = omega (arith, c .shared-slice-known5 .given (c .before .before .before .before .before .args .mp + 6))
 
 add-value-of : tie.Need-add-value-of
-add-value-of c = omega (arith, mp-within (c .before .before .before .before .before .pre), c .before .before .before .before .before .good)
+add-value-of c =
+    let start = c .before .before .before .before .before in
+    omega (arith, mp-within (start .pre), start .good)
 
 mul-value-of-2 : tie.Need-mul-value-of-2
 mul-value-of-2 c = search needs

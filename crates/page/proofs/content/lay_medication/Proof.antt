@@ -48,18 +48,23 @@ lay-slots-requires c κs =
     )
 
 mul-lay-ws : tie.Need-mul-lay-ws
-mul-lay-ws c = omega (arith, c .before .before .before .before .before .before .before .before .before .before .before .before .before .before .before .before .before .before .before .pre .4, c .before .before .before .before .before .before .before .before .before .before .before .before .before .before .before .before .before .before .before .good)
+mul-lay-ws c =
+    let start = c .before .before .before .before .before .before .before .before .before .before .before .before .before .before .before .before .before .before .before in
+    omega (arith, start .pre .4, start .good)
 
 add-lay-ws : tie.Need-add-lay-ws
-add-lay-ws c = omega (arith, c .before .before .before .before .before .before .before .before .before .before .before .before .before .before .before .before .before .before .before .pre .4, c .before .before .before .before .before .before .before .before .before .before .before .before .before .before .before .before .before .before .before .good)
+add-lay-ws c =
+    let start = c .before .before .before .before .before .before .before .before .before .before .before .before .before .before .before .before .before .before .before in
+    omega (arith, start .pre .4, start .good)
 
 lay-ws-requires : tie.Need-lay-ws-requires
 lay-ws-requires c κs =
+    let at-lay-slots = c .before .before .before .before .before .before in
     let S = c .before .before .before .before .before .before .before .before .before .before .before .before .before .before .before .before .before .before .before in (
       S .pre .3,
       λ es L. (
-        room-behind (others S) (concat (wsBy es)) (reroom (medication-values (first S) (others S) (wsBy es)) (S .pre .5 es L .1)) (c .before .before .before .before .before .before .lay-slots .ensures),
-        omega (arith, S .pre .5 es L .0, S .pre .4, c .before .before .before .before .before .before .before .before .before .before .before .open-row .kept .0, c .before .before .before .before .before .before .lay-slots .kept .1 .1 .1 .1 .1 .1 .1 .0),
+        room-behind (others S) (concat (wsBy es)) (reroom (medication-values (first S) (others S) (wsBy es)) (S .pre .5 es L .1)) (at-lay-slots .lay-slots .ensures),
+        omega (arith, S .pre .5 es L .0, S .pre .4, c .before .before .before .before .before .before .before .before .before .before .before .open-row .kept .0, at-lay-slots .lay-slots .kept .1 .1 .1 .1 .1 .1 .1 .0),
       ),
     )
 

@@ -35,12 +35,13 @@ add-lay-slots c = search needs
 
 lay-slots-requires : tie.Need-lay-slots-requires
 lay-slots-requires c κs =
+    let at-count-of = c .before .before .before .before .before .before in
     let S = c .before .before .before .before .before .before .before .before .before .before .before .before .before in
     let k = count-small (S .args .kind) (S .pre .0) in
-    let e = c .before .before .before .before .before .before .count-of .ensures .0 in (
+    let e = at-count-of .count-of .ensures .0 in (
       omega (arith, S .pre .2, e),
       subst (λ (n : ℕ). Spans (S .args .page .now) (length (S .args .side .now)) n (S .args .tape .now) (S .args .base)) (sym e) (S .pre .3),
-      reroom (all (c .before .before .before .before .before .before)) (reroom (plain-values (S .args .kind) (S .pre .0) (S .pre .1) _) (S .pre .4)),
+      reroom (all at-count-of) (reroom (plain-values (S .args .kind) (S .pre .0) (S .pre .1) _) (S .pre .4)),
       omega (arith, e, k, S .pre .5, c .before .before .before .before .open-row .kept .0),
     )
 

@@ -72,9 +72,11 @@ same-length-2 : tie.Need-same-length-2 Inv-loop μ-loop
 same-length-2 c = search needs
 
 returns : tie.Need-returns Inv-loop μ-loop
-returns c = λ es L.
-    let v = c .before .before .before .loop .inv in
-    let r = room (c .before .before .before) in
+returns c =
+    let at-loop = c .before .before .before in
+    λ es L.
+    let v = at-loop .loop .inv in
+    let r = room at-loop in
     let g = r .0 .fits in
     relay (ap (λ (l : List Elem). concat (wsBy l)) (lies-same _ _ _ _ _ _ (v .all) es (v .all-lie) L)) (finish (regoing (ap concat (no-w (next (c .before .before)) (c .if1 .taken))) (v .going)) (omega arith) (omega (arith, r .1)))
 
@@ -83,12 +85,13 @@ add-lay-slots c = let N = next (c .before .before) in omega (arith, N .wide, N .
 
 lay-slots-requires : tie.Need-lay-slots-requires Inv-loop μ-loop
 lay-slots-requires c κs =
+    let at-loop = c .before .before .before .before .before in
     let N = next (c .before .before .before .before) in
-    let v = c .before .before .before .before .before .loop .inv in
+    let v = at-loop .loop .inv in
     let l = w-lie N (c .before .before .if1 .left) in (
       omega (arith, l .1, N .high, c .before .before .before .before .before .before .before .before .before .before .before .pre .0 .within),
       l .0,
-      room-first _ (concat (wsBy (N .rest))) _ _ (reroom (ap concat (w-here (c .before .before))) (room-left (v .going) (room (c .before .before .before .before .before) .0))),
+      room-first _ (concat (wsBy (N .rest))) _ _ (reroom (ap concat (w-here (c .before .before))) (room-left (v .going) (room at-loop .0))),
       omega (arith, v .space, ap length (w-here (c .before .before)), v .going .numbers-so .long),
     )
 
@@ -108,23 +111,27 @@ cast-f : tie.Need-cast-f Inv-loop μ-loop
 cast-f c = omega (arith, c .shared-slice-known5 .given (c .before .before .before .before .before .before .before .before .before .before .before .loop .f + 2))
 
 loop-less : tie.Need-loop-less Inv-loop μ-loop
-loop-less c = let N = next (c .before .before .before .before .before .before .before .before .before .before) in omega (arith, N .wide, c .before .before .before .before .before .before .before .before .before .before .loop-test .taken)
+loop-less c =
+    let at-loop-test = c .before .before .before .before .before .before .before .before .before .before in
+    let N = next at-loop-test in omega (arith, N .wide, at-loop-test .loop-test .taken)
 
 loop-again : tie.Need-loop-again Inv-loop μ-loop
 loop-again c =
+    let start = c .before .before .before .before .before .before .before .before in
+    let at-loop = start .before .before .before in
     let S = c .before .before .before .before .before .before .before .before .before .before .before .before .before .before .before .before .before in
     let N = next (c .before .before .before .before .before .before .before .before .before .before) in
-    let v = c .before .before .before .before .before .before .before .before .before .before .before .loop .inv in
-    let us = valuesAt (S .args .page .now) (S .args .side .now) 2 (S .args .tape .now) (c .before .before .before .before .before .before .before .before .before .before .before .loop .f + 3) in
-    let G = regoing (ap concat (w-here (c .before .before .before .before .before .before .before .before))) (v .going) in
-    let Q = going-room us (concat (wsBy (N .rest))) G (room (c .before .before .before .before .before .before .before .before .before .before .before) .0) in
+    let v = at-loop .loop .inv in
+    let us = valuesAt (S .args .page .now) (S .args .side .now) 2 (S .args .tape .now) (at-loop .loop .f + 3) in
+    let G = regoing (ap concat (w-here start)) (v .going) in
+    let Q = going-room us (concat (wsBy (N .rest))) G (room at-loop .0) in
     record {
       all = v .all;
       all-lie = v .all-lie;
       rest = N .rest;
       lies = N .behind-it;
-      space = omega (arith, v .space, ap length (w-here (c .before .before .before .before .before .before .before .before)));
-      going = replaced (omega arith) (turn {us = us} G (c .before .before .before .before .before .lay-slots .ensures) Q (omega (arith, v .space, ap length (w-here (c .before .before .before .before .before .before .before .before)))));
+      space = omega (arith, v .space, ap length (w-here start));
+      going = replaced (omega arith) (turn {us = us} G (c .before .before .before .before .before .lay-slots .ensures) Q (omega (arith, v .space, ap length (w-here start))));
     }
 
 same-length-3 : tie.Need-same-length-3 Inv-loop μ-loop

@@ -12,13 +12,17 @@ mul-number-in : tie.Need-mul-number-in
 mul-number-in c = omega (arith, c .before .before .before .pre .2)
 
 add-number-in : tie.Need-add-number-in
-add-number-in c = omega (arith, c .before .before .before .pre .2, mp-within (c .before .before .before .pre .0), c .before .before .before .good)
+add-number-in c =
+    let start = c .before .before .before in
+    omega (arith, start .pre .2, mp-within (start .pre .0), start .good)
 
 number-in-requires : tie.Need-number-in-requires
 number-in-requires c κs = let S = c .before .before .before in (omega (arith, mp-within (S .pre .0), S .pre .2), mp-span (S .pre .0) (S .args .k) (S .pre .2), mp-short (S .pre .0) (S .pre .1) (S .args .k) (S .pre .2) (S .pre .3))
 
 returns : tie.Need-returns
-returns c = c .number-in .ensures ∙ ap (number 0) (mp-value (c .before .before .before .before .pre .0) (c .before .before .before .before .args .k) (c .before .before .before .before .pre .2))
+returns c =
+    let start = c .before .before .before .before in
+    c .number-in .ensures ∙ ap (number 0) (mp-value (start .pre .0) (start .args .k) (start .pre .2))
 
 pub mp-number-spec : {M : Type 1} → statement M
 mp-number-spec = tie.close (tie.spec mul-number-in add-number-in number-in-requires returns)

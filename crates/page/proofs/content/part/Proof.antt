@@ -40,7 +40,9 @@ add-result : tie.Need-add-result Inv-loop μ-loop
 add-result c = let N = next (c .before .before) in omega (arith, N .wide, N .high, c .before .before .before .before .good)
 
 returns : tie.Need-returns Inv-loop μ-loop
-returns c = part-here (c .before .before .before .before .pre .0) (c .before .before .before .before .args .kind) (c .before .before .before .before .pre .1) (next (c .before .before)) (c .before .before .before .loop .inv .so) (c .if1 .taken) (c .before .before .before .before .pre .0 .taped .within .0)
+returns c =
+    let start = c .before .before .before .before in
+    part-here (start .pre .0) (start .args .kind) (start .pre .1) (next (c .before .before)) (c .before .before .before .loop .inv .so) (c .if1 .taken) (start .pre .0 .taped .within .0)
 
 add-f : tie.Need-add-f Inv-loop μ-loop
 add-f c = let N = next (c .before .before) in omega (arith, N .wide, N .high, c .before .before .before .before .good)
@@ -55,10 +57,14 @@ cast-f : tie.Need-cast-f Inv-loop μ-loop
 cast-f c = omega (arith, c .shared-slice-known2 .given (c .before .before .before .before .loop .f + 2))
 
 loop-less : tie.Need-loop-less Inv-loop μ-loop
-loop-less c = let N = next (c .before .before .before) in omega (arith, N .wide, c .before .before .before .loop-test .taken)
+loop-less c =
+    let at-loop-test = c .before .before .before in
+    let N = next at-loop-test in omega (arith, N .wide, at-loop-test .loop-test .taken)
 
 loop-again : tie.Need-loop-again Inv-loop μ-loop
-loop-again c = let N = next (c .before .before .before) in record { rest = N .rest; lies = N .behind-it; so = part-past (c .before .before .before .before .before .pre .0) (c .before .before .before .before .before .args .kind) (c .before .before .before .before .before .pre .1) N (c .before .before .before .before .loop .inv .so) (c .before .if1 .left) }
+loop-again c =
+    let start = c .before .before .before .before .before in
+    let N = next (c .before .before .before) in record { rest = N .rest; lies = N .behind-it; so = part-past (start .pre .0) (start .args .kind) (start .pre .1) N (c .before .before .before .before .loop .inv .so) (c .before .if1 .left) }
 
 returns-2 : tie.Need-returns-2 Inv-loop μ-loop
 returns-2 c = part-none (c .before .before .pre .0) (c .before .before .args .kind) (c .before .before .pre .1) _ (c .before .loop .inv .so) (no-step _ _ _ _ _ _ (c .before .loop .inv .lies) (c .loop-test .left))

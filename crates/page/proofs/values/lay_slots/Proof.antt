@@ -71,7 +71,10 @@ value-of-requires : tie.Need-value-of-requires Inv-loop μ-loop
 value-of-requires c κs = spans-next _ (c .before .before .before .before .before .before .before .before .before .args .side .now) _ _ _ _ (left (c .before .before)) (c .before .before .before .loop .inv .lie) .0
 
 lay-one-requires : tie.Need-lay-one-requires Inv-loop μ-loop
-lay-one-requires c κs = (reroom (ap (λ (v : List ℕ). v ∷ []) (sym (c .before .before .value-of .ensures))) (room (c .before .before .before .before .before)), omega (arith, c .before .before .before .before .before .before .loop .inv .place, c .before .before .before .before .before .before .loop .inv .going .numbers-so .long, c .before .before .before .before .before .before .before .before .before .before .before .before .pre .3, c .before .before .before .before .before .loop-test .taken))
+lay-one-requires c κs =
+    let at-loop-test = c .before .before .before .before .before in
+    let at-loop = at-loop-test .before in
+    (reroom (ap (λ (v : List ℕ). v ∷ []) (sym (c .before .before .value-of .ensures))) (room at-loop-test), omega (arith, at-loop .loop .inv .place, at-loop .loop .inv .going .numbers-so .long, c .before .before .before .before .before .before .before .before .before .before .before .before .pre .3, at-loop-test .loop-test .taken))
 
 add-b : tie.Need-add-b Inv-loop μ-loop
 add-b c = search needs
@@ -87,17 +90,18 @@ loop-less c = search needs
 
 loop-again : tie.Need-loop-again Inv-loop μ-loop
 loop-again c =
+    let at-loop-test = c .before .before .before .before .before .before .before .before .before .before in
     let S = c .before .before .before .before .before .before .before .before .before .before .before .before .before .before .before .before .before in
     let L = c .before .before .before .before .before .before .before .before .before .before .before in
     let v = L .loop .inv in
     let z : S .args .count - (L .loop .j + 1) ≡ S .args .count - L .loop .j - 1 = omega arith in
     let K = relay (ap (λ (u : List ℕ). u ∷ []) (c .before .before .before .before .before .before .before .value-of .ensures)) (c .before .before .before .before .lay-one .ensures) in
     record {
-      high = omega (arith, c .before .before .before .before .before .before .before .before .before .before .loop-test .taken);
+      high = omega (arith, at-loop-test .loop-test .taken);
       here = omega (arith, v .here);
       place = omega (arith, v .place);
-      lie = rw z (spans-next _ (S .args .side .now) _ _ _ _ (left (c .before .before .before .before .before .before .before .before .before .before)) (v .lie) .1);
-      going = rw z (next-laid _ _ _ _ _ (v .going) (S .pre .2) (left (c .before .before .before .before .before .before .before .before .before .before)) K (omega (arith, v .place, S .pre .3, c .before .before .before .before .before .before .before .before .before .before .loop-test .taken)));
+      lie = rw z (spans-next _ (S .args .side .now) _ _ _ _ (left at-loop-test) (v .lie) .1);
+      going = rw z (next-laid _ _ _ _ _ (v .going) (S .pre .2) (left at-loop-test) K (omega (arith, v .place, S .pre .3, at-loop-test .loop-test .taken)));
     }
 
 same-length : tie.Need-same-length Inv-loop μ-loop

@@ -116,16 +116,18 @@ loop-less c = search needs
 
 loop-again : tie.Need-loop-again Inv-loop μ-loop
 loop-again c =
+    let at-loop-test = c .before .before .before .before .before .before .before .before in
+    let at-loop = at-loop-test .before in
     let S = c .before .before .before .before .before .before .before .before .before .before .before .before .before .before in
-    let v = c .before .before .before .before .before .before .before .before .before .loop .inv in
-    let z : S .args .count - (c .before .before .before .before .before .before .before .before .before .loop .j + 1) ≡ S .args .count - c .before .before .before .before .before .before .before .before .before .loop .j - 1 = omega arith in
+    let v = at-loop .loop .inv in
+    let z : S .args .count - (at-loop .loop .j + 1) ≡ S .args .count - at-loop .loop .j - 1 = omega arith in
     record {
-      high = omega (arith, c .before .before .before .before .before .before .before .before .loop-test .taken);
+      high = omega (arith, at-loop-test .loop-test .taken);
       p-is = omega (arith, v .p-is);
       q-is = omega (arith, v .q-is);
-      p-lie = rw z (spans-next _ (S .args .side .now) _ _ _ _ (left (c .before .before .before .before .before .before .before .before)) (v .p-lie) .1);
-      q-lie = rw z (spans-next _ (S .args .side .now) _ _ _ _ (left (c .before .before .before .before .before .before .before .before)) (v .q-lie) .1);
-      so = rw z (v .so ∙ slots-same _ _ _ _ _ _ _ (left (c .before .before .before .before .before .before .before .before)) (sym (found (c .before)) ∙ not-false _ (c .if1 .left)));
+      p-lie = rw z (spans-next _ (S .args .side .now) _ _ _ _ (left at-loop-test) (v .p-lie) .1);
+      q-lie = rw z (spans-next _ (S .args .side .now) _ _ _ _ (left at-loop-test) (v .q-lie) .1);
+      so = rw z (v .so ∙ slots-same _ _ _ _ _ _ _ (left at-loop-test) (sym (found (c .before)) ∙ not-false _ (c .if1 .left)));
     }
 
 returns-2 : tie.Need-returns-2 Inv-loop μ-loop

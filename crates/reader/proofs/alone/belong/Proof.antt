@@ -61,7 +61,9 @@ slice-aggregate-alike-2 : tie.Need-slice-aggregate-alike-2
 slice-aggregate-alike-2 c = search needs
 
 alike-requires : tie.Need-alike-requires
-alike-requires c κs = ((c .before .before .before .before .before) .find-head .ensures, page-good _ _ ((c .before .before .before .before .before .before .before .before .before .before .before .before .before .before .before .before .before .before .before .before .before .before .before) .pre .0) .fit, (c .before .before) .find-head2 .ensures, page-good _ _ ((c .before .before .before .before .before .before .before .before .before .before .before .before .before .before .before .before .before .before .before .before .before .before .before) .pre .1) .fit)
+alike-requires c κs =
+    let start = c .before .before .before .before .before .before .before .before .before .before .before .before .before .before .before .before .before .before .before .before .before .before .before in
+    ((c .before .before .before .before .before) .find-head .ensures, page-good _ _ (start .pre .0) .fit, (c .before .before) .find-head2 .ensures, page-good _ _ (start .pre .1) .fit)
 
 returns : tie.Need-returns
 returns c = search needs

@@ -31,7 +31,9 @@ slice-aggregate-find-head-2 : tie.Need-slice-aggregate-find-head-2
 slice-aggregate-find-head-2 c = search needs
 
 find-head-requires : tie.Need-find-head-requires
-find-head-requires c κs = made-read ((c .before .before .before .before) .lay-page .ensures .0) (blank-new 4420 (omega arith)) (omega arith) ((c .before .before .before .before) .lay-page .kept .1 .1 .0)
+find-head-requires c κs =
+    let at-lay-page = c .before .before .before .before in
+    made-read (at-lay-page .lay-page .ensures .0) (blank-new 4420 (omega arith)) (omega arith) (at-lay-page .lay-page .kept .1 .1 .0)
 
 slice-aggregate-number-of : tie.Need-slice-aggregate-number-of
 slice-aggregate-number-of c = search needs

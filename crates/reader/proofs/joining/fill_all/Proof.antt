@@ -24,7 +24,9 @@ fits : (c : tie.After-page-at) → PageFits (c .page-at .result .now)
 fits c = page-fits {i = 0} (called (c .before .before .before .before .before .before .before .before .pre .2)) (one (c .before .before .before .before .before .before .before .before)) (c .page-at .ensures)
 
 page-at-requires : tie.Need-page-at-requires
-page-at-requires c κs = (one (c .before .before .before .before .before .before .before), c .before .before .before .before .before .before .before .pre .2 .lie)
+page-at-requires c κs =
+    let start = c .before .before .before .before .before .before .before in
+    (one start, start .pre .2 .lie)
 
 element-copy-out-find-head : tie.Need-element-copy-out-find-head
 element-copy-out-find-head c = search needs
@@ -33,13 +35,16 @@ element-copy-out-find-head-2 : tie.Need-element-copy-out-find-head-2
 element-copy-out-find-head-2 c = search needs
 
 find-head-requires : tie.Need-find-head-requires
-find-head-requires c κs = read-at (c .before .before .before .before .before .before .before .before .before .before .pre .2) 0 (one (c .before .before .before .before .before .before .before .before .before .before)) (c .before .before .page-at .ensures)
+find-head-requires c κs =
+    let start = c .before .before .before .before .before .before .before .before .before .before in
+    read-at (start .pre .2) 0 (one start) (c .before .before .page-at .ensures)
 
 lay-head-requires : tie.Need-lay-head-requires
 lay-head-requires c κs =
+    let at-fit = c .before .before .before .before in
     let S = c .before .before .before .before .before .before .before .before .before .before .before .before in
     let a = S .args in
-    (c .before .find-head .ensures, fits (c .before .before .before .before) .fit, head-place (pagesAt (a .buffer .now) (a .starts .now) (a .lens .now)) (a .z) (paged S) (S .pre .4) _ _ (c .before .before .before .before .page-at .ensures) (S .pre .8) (S .pre .9))
+    (c .before .find-head .ensures, fits at-fit .fit, head-place (pagesAt (a .buffer .now) (a .starts .now) (a .lens .now)) (a .z) (paged S) (S .pre .4) _ _ (at-fit .page-at .ensures) (S .pre .8) (S .pre .9))
 
 fill-pages-requires : tie.Need-fill-pages-requires
 fill-pages-requires c κs =

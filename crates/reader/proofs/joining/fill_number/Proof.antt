@@ -28,7 +28,9 @@ page-of-requires : tie.Need-page-of-requires
 page-of-requires c κs = c .before .before .before .before .before .before .before .pre .0
 
 returns : tie.Need-returns
-returns c = let a = c .before .before .before .before .before .before .before .before .before .args in fills-empty _ (a .text .now) (a .rows .now) (a .n) (a .i) (no-page (called (c .before .before .before .before .before .before .before .before .before .pre .1)) (a .k) (place (c .before)) (c .if1 .taken)) (c .before .before .before .before .before .before .before .before .before .pre .3) (c .before .before .before .before .before .before .before .before .before .pre .4)
+returns c =
+    let start = c .before .before .before .before .before .before .before .before .before in
+    let a = start .args in fills-empty _ (a .text .now) (a .rows .now) (a .n) (a .i) (no-page (called (start .pre .1)) (a .k) (place (c .before)) (c .if1 .taken)) (start .pre .3) (start .pre .4)
 
 page-at-requires : tie.Need-page-at-requires
 page-at-requires c κs = (there (c), c .before .before .before .before .before .before .before .before .before .pre .1 .lie)
@@ -50,9 +52,13 @@ element-copy-out-fill-rows-2 c = omega (arith, there (c .before .before), c .bef
 
 fill-rows-requires : tie.Need-fill-rows-requires
 fill-rows-requires c κs =
-    let a = c .before .before .before .before .before .before .before .before .before .before .before .before .before .before .args in
-    let q = page-rows (called (c .before .before .before .before .before .before .before .before .before .before .before .before .before .before .pre .1)) (a .k) (place (c .before .before .before .before .before .before)) (c .before .before .before .before .before .if1 .left) (c .before .before .before .before .page-at .ensures) in
-    (read-at (c .before .before .before .before .before .before .before .before .before .before .before .before .before .before .pre .1) (c .before .before .before .before .before .before .page-of .result) (there (c .before .before .before .before .before)) (c .before .before .before .before .page-at .ensures), subst (λ (r : List Row). Room (rowsValues r) (a .text .now) (a .n)) q (c .before .before .before .before .before .before .before .before .before .before .before .before .before .before .pre .3), records-of _ _ (a .i) (length (a .rows .now)) q (c .before .before .before .before .before .before .before .before .before .before .before .before .before .before .pre .4))
+    let at-page-at = c .before .before .before .before in
+    let at-if1 = at-page-at .before in
+    let at-page-of = at-if1 .before in
+    let start = at-page-of .before .before .before .before .before .before .before .before in
+    let a = start .args in
+    let q = page-rows (called (start .pre .1)) (a .k) (place at-page-of) (at-if1 .if1 .left) (at-page-at .page-at .ensures) in
+    (read-at (start .pre .1) (at-page-of .page-of .result) (there at-if1) (at-page-at .page-at .ensures), subst (λ (r : List Row). Room (rowsValues r) (a .text .now) (a .n)) q (start .pre .3), records-of _ _ (a .i) (length (a .rows .now)) q (start .pre .4))
 
 same-length : tie.Need-same-length
 same-length c = search needs
@@ -62,9 +68,10 @@ same-length-2 c = search needs
 
 returns-2 : tie.Need-returns-2
 returns-2 c =
-    let a = c .before .before .before .before .before .before .before .before .before .before .before .before .before .before .before .before .before .before .before .args in
+    let start = c .before .before .before .before .before .before .before .before .before .before .before .before .before .before .before .before .before .before .before in
+    let a = start .args in
     let R = c .before .before .before .before in
-    let q = page-rows (called (c .before .before .before .before .before .before .before .before .before .before .before .before .before .before .before .before .before .before .before .pre .1)) (a .k) (place (c .before .before .before .before .before .before .before .before .before .before .before)) (c .before .before .before .before .before .before .before .before .before .before .if1 .left) (c .before .before .before .before .before .before .before .before .before .page-at .ensures) in
+    let q = page-rows (called (start .pre .1)) (a .k) (place (c .before .before .before .before .before .before .before .before .before .before .before)) (c .before .before .before .before .before .before .before .before .before .before .if1 .left) (c .before .before .before .before .before .before .before .before .before .page-at .ensures) in
     subst (λ (r : List Row). Fills r (a .text .now) (R .fill-rows .last .1 .1 .1 .1 .1 .1 .0) (a .n) (R .fill-rows .result .end) (a .rows .now) (R .fill-rows .last .1 .1 .1 .1 .1 .0) (a .i) (R .fill-rows .result .row)) (sym q) (R .fill-rows .ensures)
 
 pub fill-number-spec : {M : Type 1} → statement M

@@ -20,7 +20,9 @@ placed : (S : tie.Start Inv-loop μ-loop) → Place (sheetsOf (pagesAt (S .args 
 placed S = record { room = S .pre .4; records = S .pre .5 }
 
 loop-holds : tie.Need-loop-holds Inv-loop μ-loop
-loop-holds c = let a = c .before .before .before .before .before .before .before .args in filling-start (sheetsOf (pagesAt (a .buffer .now) (a .starts .now) (a .lens .now))) (a .z) (a .text .now) (a .rows .now) (a .n) (placed (c .before .before .before .before .before .before .before))
+loop-holds c =
+    let start = c .before .before .before .before .before .before .before in
+    let a = start .args in filling-start (sheetsOf (pagesAt (a .buffer .now) (a .starts .now) (a .lens .now))) (a .z) (a .text .now) (a .rows .now) (a .n) (placed start)
 
 add-fill-number : tie.Need-add-fill-number Inv-loop μ-loop
 add-fill-number c = omega (arith, c .loop-test .taken, c .before .before .before .before .before .before .before .before .before .pre .3)

@@ -27,13 +27,17 @@ loop-holds c =
     (search needs, search needs, h, alike-one (pagesAt (a .buffer .now) (a .starts .now) (a .lens .now)) (omega (arith, h, S .pre .0)))
 
 like-first-requires : tie.Need-like-first-requires Inv-loop μ-loop
-like-first-requires c κs = (c .loop-test .taken, c .before .before .before .before .before .before .before .pre .2, c .before .before .before .before .before .before .before .pre .3)
+like-first-requires c κs =
+    let start = c .before .before .before .before .before .before .before in
+    (c .loop-test .taken, start .pre .2, start .pre .3)
 
 add-result : tie.Need-add-result Inv-loop μ-loop
 add-result c = search needs
 
 returns : tie.Need-returns Inv-loop μ-loop
-returns c = let L = c .before .before .before in sym (other-here (pagesAt (c .before .before .before .before .before .before .before .before .before .args .buffer .now) (c .before .before .before .before .before .before .before .before .before .args .starts .now) (c .before .before .before .before .before .before .before .before .before .args .lens .now)) (L .loop .i) (omega (arith, L .loop .inv .2, c .before .before .loop-test .taken)) (L .loop .inv .3) (sym (c .before .like-first .ensures) ∙ no-not _ (c .if1 .taken)))
+returns c =
+    let start = c .before .before .before .before .before .before .before .before .before in
+    let L = c .before .before .before in sym (other-here (pagesAt (start .args .buffer .now) (start .args .starts .now) (start .args .lens .now)) (L .loop .i) (omega (arith, L .loop .inv .2, c .before .before .loop-test .taken)) (L .loop .inv .3) (sym (c .before .like-first .ensures) ∙ no-not _ (c .if1 .taken)))
 
 add-i : tie.Need-add-i Inv-loop μ-loop
 add-i c = search needs
@@ -43,11 +47,14 @@ loop-less c = search needs
 
 loop-again : tie.Need-loop-again Inv-loop μ-loop
 loop-again c =
+    let start = c .before .before .before .before .before .before .before .before .before in
     let L = c .before .before .before in
-    let v = L .loop .inv in (search needs, search needs, v .2, alike-more (pagesAt (c .before .before .before .before .before .before .before .before .before .args .buffer .now) (c .before .before .before .before .before .before .before .before .before .args .starts .now) (c .before .before .before .before .before .before .before .before .before .args .lens .now)) (L .loop .i) (omega (arith, v .2, c .before .before .loop-test .taken)) (v .3) (sym (c .before .like-first .ensures) ∙ not-false _ (c .if1 .left)))
+    let v = L .loop .inv in (search needs, search needs, v .2, alike-more (pagesAt (start .args .buffer .now) (start .args .starts .now) (start .args .lens .now)) (L .loop .i) (omega (arith, v .2, c .before .before .loop-test .taken)) (v .3) (sym (c .before .like-first .ensures) ∙ not-false _ (c .if1 .left)))
 
 returns-2 : tie.Need-returns-2 Inv-loop μ-loop
-returns-2 c = let L = c .before in sym (none-other (pagesAt (c .before .before .before .before .before .before .before .args .buffer .now) (c .before .before .before .before .before .before .before .args .starts .now) (c .before .before .before .before .before .before .before .args .lens .now)) (L .loop .i) (omega (arith, L .loop .inv .2, c .loop-test .left)) (L .loop .inv .3))
+returns-2 c =
+    let start = c .before .before .before .before .before .before .before in
+    let L = c .before in sym (none-other (pagesAt (start .args .buffer .now) (start .args .starts .now) (start .args .lens .now)) (L .loop .i) (omega (arith, L .loop .inv .2, c .loop-test .left)) (L .loop .inv .3))
 
 pub first-other-spec : {M : Type 1} → statement M
 first-other-spec =

@@ -30,7 +30,9 @@ count-is c =
     c .count-said .ensures ∙ (ap (λ (w : List ℕ). contentOf (tagsAt w 0) .of) (c .before .before .before .before .page-at .ensures) ∙ count-first (pagesAt (a .buffer .now) (a .starts .now) (a .lens .now)) (omega (arith, h, c .before .before .before .before .before .before .before .before .before .before .pre .0)))
 
 page-at-requires : tie.Need-page-at-requires
-page-at-requires c κs = (one (c .before .before .before .before .before), c .before .before .before .before .before .pre .2 .lie)
+page-at-requires c κs =
+    let start = c .before .before .before .before .before in
+    (one start, start .pre .2 .lie)
 
 element-copy-out-find-head : tie.Need-element-copy-out-find-head
 element-copy-out-find-head c = search needs
@@ -39,16 +41,22 @@ element-copy-out-find-head-2 : tie.Need-element-copy-out-find-head-2
 element-copy-out-find-head-2 c = search needs
 
 find-head-requires : tie.Need-find-head-requires
-find-head-requires c κs = read-at (c .before .before .before .before .before .before .before .before .pre .2) 0 (one (c .before .before .before .before .before .before .before .before)) (c .before .before .page-at .ensures)
+find-head-requires c κs =
+    let start = c .before .before .before .before .before .before .before .before in
+    read-at (start .pre .2) 0 (one start) (c .before .before .page-at .ensures)
 
 count-said-requires : tie.Need-count-said-requires
 count-said-requires c κs = (c .find-head .ensures .mp-at, fits (c .before .before .before) .fit)
 
 first-other-requires : tie.Need-first-other-requires
-first-other-requires c κs = (c .before .before .before .before .before .before .before .before .before .before .pre .0, c .before .before .before .before .before .before .before .before .before .before .pre .1, c .before .before .before .before .before .before .before .before .before .before .pre .2, subst (λ (w : List ℕ). HeadAt w (c .before .before .before .before .before .before .before .before .before .before .args .side .now) (c .before .before .before .before .before .before .before .before .before .before .args .tape .now) (c .before .find-head .result)) (c .before .before .before .before .page-at .ensures) (c .before .find-head .ensures))
+first-other-requires c κs =
+    let start = c .before .before .before .before .before .before .before .before .before .before in
+    (start .pre .0, start .pre .1, start .pre .2, subst (λ (w : List ℕ). HeadAt w (start .args .side .now) (start .args .tape .now) (c .before .find-head .result)) (c .before .before .before .before .page-at .ensures) (c .before .find-head .ensures))
 
 numbers-requires : tie.Need-numbers-requires
-numbers-requires c κs = (c .before .before .before .before .before .before .before .before .before .before .before .pre .1, c .before .before .before .before .before .before .before .before .before .before .before .pre .2)
+numbers-requires c κs =
+    let start = c .before .before .before .before .before .before .before .before .before .before .before in
+    (start .pre .1, start .pre .2)
 
 cast-t18 : tie.Need-cast-t18
 cast-t18 c = omega (arith, c .before .before .count-said .ensures, fits (c .before .before .before .before .before .before) .of-small)

@@ -13,16 +13,22 @@ use Rattle.reader.proofs.joining.like_first.Tie as tie
 use borrow.Author.Needs.{needs}
 
 page-at-requires : tie.Need-page-at-requires
-page-at-requires c κs = (omega (arith, (c .before .before .before .before .before) .pre .0), (c .before .before .before .before .before) .pre .1 .lie)
+page-at-requires c κs =
+    let start = c .before .before .before .before .before in
+    (omega (arith, start .pre .0), start .pre .1 .lie)
 
 page-at-requires-2 : tie.Need-page-at-requires-2
-page-at-requires-2 c κs = ((c .before .before .before .before .before .before) .pre .0, (c .before .before .before .before .before .before) .pre .1 .lie)
+page-at-requires-2 c κs =
+    let start = c .before .before .before .before .before .before in
+    (start .pre .0, start .pre .1 .lie)
 
 mul-find-head : tie.Need-mul-find-head
 mul-find-head c = search needs
 
 element-copy-out-find-head : tie.Need-element-copy-out-find-head
-element-copy-out-find-head c = omega (arith, (c .before .before .before .before .before .before .before) .pre .0, (c .before .before .before .before .before .before .before) .pre .1 .nine)
+element-copy-out-find-head c =
+    let start = c .before .before .before .before .before .before .before in
+    omega (arith, start .pre .0, start .pre .1 .nine)
 
 add-find-head : tie.Need-add-find-head
 add-find-head c = search needs
@@ -31,10 +37,14 @@ mul-find-head-2 : tie.Need-mul-find-head-2
 mul-find-head-2 c = search needs
 
 element-copy-out-find-head-2 : tie.Need-element-copy-out-find-head-2
-element-copy-out-find-head-2 c = omega (arith, (c .before .before .before .before .before .before .before .before) .pre .0, (c .before .before .before .before .before .before .before .before) .pre .1 .nine)
+element-copy-out-find-head-2 c =
+    let start = c .before .before .before .before .before .before .before .before in
+    omega (arith, start .pre .0, start .pre .1 .nine)
 
 find-head-requires : tie.Need-find-head-requires
-find-head-requires c κs = read-at ((c .before .before .before .before .before .before .before .before .before) .pre .1) ((c .before .before .before .before .before .before .before .before .before) .args .i) ((c .before .before .before .before .before .before .before .before .before) .pre .0) ((c .before .before) .page-at2 .ensures)
+find-head-requires c κs =
+    let start = c .before .before .before .before .before .before .before .before .before in
+    read-at (start .pre .1) (start .args .i) (start .pre .0) ((c .before .before) .page-at2 .ensures)
 
 alike-requires : tie.Need-alike-requires
 alike-requires c κs =

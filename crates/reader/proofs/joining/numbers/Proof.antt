@@ -34,19 +34,21 @@ loop-less c = search needs
 
 loop-again : tie.Need-loop-again Inv-loop μ-loop
 loop-again c =
+    let start = c .before .before .before .before .before .before .before .before in
     let L = c .before .before in
-    let a = c .before .before .before .before .before .before .before .before .args in
-    let h = pages-count (a .buffer .now) (a .starts .now) (a .lens .now) (c .before .before .before .before .before .before .before .before .pre .1 .lie) in
+    let a = start .args in
+    let h = pages-count (a .buffer .now) (a .starts .now) (a .lens .now) (start .pre .1 .lie) in
     let t = c .before .loop-test .taken in
-    let n = c .before .before .before .before .before .before .before .before .pre .0 in
+    let n = start .pre .0 in
     let w = L .loop .inv .1 in
     (search needs, simp length-set w, numbered-more (pagesAt (a .buffer .now) (a .starts .now) (a .lens .now)) (L .loop .nos) (L .loop .i) _ (omega (arith, h, t)) (omega (arith, t, n, w)) (c .number-at .ensures) (L .loop .inv .2))
 
 returns : tie.Need-returns Inv-loop μ-loop
 returns c =
+    let start = c .before .before .before .before .before .before .before in
     let L = c .before in
-    let a = c .before .before .before .before .before .before .before .args in
-    let h = pages-count (a .buffer .now) (a .starts .now) (a .lens .now) (c .before .before .before .before .before .before .before .pre .1 .lie) in
+    let a = start .args in
+    let h = pages-count (a .buffer .now) (a .starts .now) (a .lens .now) (start .pre .1 .lie) in
     let e : L .loop .i ≡ length (a .starts .now) = omega (arith, L .loop .inv .0, c .loop-test .left) in
     numbered-all (pagesAt (a .buffer .now) (a .starts .now) (a .lens .now)) (L .loop .nos) (length (a .starts .now)) h (subst (λ i. Numbered (pagesAt (a .buffer .now) (a .starts .now) (a .lens .now)) (L .loop .nos) i) e (L .loop .inv .2))
 

@@ -39,7 +39,9 @@ part-result-end : tie.Need-part-result-end
 part-result-end c = let e = ends-in (c .before .before) in omega (arith, e)
 
 returns : tie.Need-returns
-returns c = let a = c .before .before .before .args in part-at (a .buffer .now) (a .starts .now) (a .lens .now) (a .i) _ _ (c .before .before .before .pre .1) (c .before .before .before .pre .0) refl refl
+returns c =
+    let start = c .before .before .before in
+    let a = start .args in part-at (a .buffer .now) (a .starts .now) (a .lens .now) (a .i) _ _ (start .pre .1) (start .pre .0) refl refl
 
 pub page-at-spec : {M : Type 1} → statement M
 page-at-spec =

@@ -26,7 +26,9 @@ page-of-requires : tie.Need-page-of-requires
 page-of-requires c κs = c .before .before .before .before .before .pre .0
 
 returns : tie.Need-returns
-returns c = (sym (ap (λ (l : List Row). length l) (no-page (called (c .before .before .before .before .before .before .before .pre .1)) (c .before .before .before .before .before .before .before .args .k) (place (c .before)) (c .if1 .taken))), omega arith)
+returns c =
+    let start = c .before .before .before .before .before .before .before in
+    (sym (ap (λ (l : List Row). length l) (no-page (called (start .pre .1)) (start .args .k) (place (c .before)) (c .if1 .taken))), omega arith)
 
 page-at-requires : tie.Need-page-at-requires
 page-at-requires c κs = (there (c), c .before .before .before .before .before .before .before .pre .1 .lie)
@@ -51,7 +53,8 @@ count-rows-requires c κs = read-at (c .before .before .before .before .before .
 
 returns-2 : tie.Need-returns-2
 returns-2 c =
-    (c .count-rows .ensures .0 ∙ sym (ap (λ (l : List Row). length l) (page-rows (called (c .before .before .before .before .before .before .before .before .before .before .before .pre .1)) (c .before .before .before .before .before .before .before .before .before .before .before .args .k) (place (c .before .before .before .before .before)) (c .before .before .before .before .if1 .left) (c .before .before .before .page-at .ensures))), c .count-rows .ensures .1)
+    let start = c .before .before .before .before .before .before .before .before .before .before .before in
+    (c .count-rows .ensures .0 ∙ sym (ap (λ (l : List Row). length l) (page-rows (called (start .pre .1)) (start .args .k) (place (c .before .before .before .before .before)) (c .before .before .before .before .if1 .left) (c .before .before .before .page-at .ensures))), c .count-rows .ensures .1)
 
 pub rows-of-spec : {M : Type 1} → statement M
 rows-of-spec =

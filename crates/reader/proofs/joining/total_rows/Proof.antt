@@ -22,7 +22,9 @@ add-rows-of : tie.Need-add-rows-of Inv-loop μ-loop
 add-rows-of c = omega (arith, c .loop-test .taken, c .before .before .before .before .before .before .before .pre .3)
 
 rows-of-requires : tie.Need-rows-of-requires Inv-loop μ-loop
-rows-of-requires c κs = (c .before .before .before .before .before .before .before .pre .0, c .before .before .before .before .before .before .before .pre .1, c .before .before .before .before .before .before .before .pre .2)
+rows-of-requires c κs =
+    let start = c .before .before .before .before .before .before .before in
+    (start .pre .0, start .pre .1, start .pre .2)
 
 add-total : tie.Need-add-total Inv-loop μ-loop
 add-total c = omega (arith, c .before .loop-test .taken, c .before .before .before .before .before .before .before .before .pre .3, c .before .before .loop .inv .1, c .rows-of .ensures .1)

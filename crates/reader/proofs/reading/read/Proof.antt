@@ -44,9 +44,10 @@ slice-aggregate-read-on-2 c = search needs
 
 read-on-requires : tie.Need-read-on-requires
 read-on-requires c κs =
+    let at-if3 = c .before .before .before .before in
     let room = sym ((c .before .before .before .before .before .before .before .before) .room-fits .ensures) ∙ not-false _ ((c .before .before .before .before .before .before .before) .if1 .left) in
     let call = sym ((c .before .before .before .before .before .before) .call-fits .ensures) ∙ not-false _ ((c .before .before .before .before .before) .if2 .left) in
-    (room, call, blank-new 4420 (omega arith), omega (arith, (c .before .before .before .before) .if3 .taken), omega arith, omega (arith, (c .before .before .before .before) .if3 .taken), omega arith)
+    (room, call, blank-new 4420 (omega arith), omega (arith, at-if3 .if3 .taken), omega arith, omega (arith, at-if3 .if3 .taken), omega arith)
 
 same-length : tie.Need-same-length
 same-length c = search needs

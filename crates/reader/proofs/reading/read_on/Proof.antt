@@ -25,7 +25,9 @@ take-all-requires c κs =
     (F .nine, F .lie, s .pre .2, s .pre .4, s .pre .6)
 
 read-tapes-requires : tie.Need-read-tapes-requires
-read-tapes-requires c κs = ((c .before .before .before .before .before .before .before .before .before .before .before .before .before .before .before .before .before .before .before .before .before) .pre .0, (c .before .before .before .before .before .before .before .before .before .before .before .before .before .before .before .before .before .before .before .before .before) .pre .1, (c .before .before .before .before .before .before .before .before .before .before .before) .take-all .ensures ((c .before .before .before .before .before .before) .if1 .taken))
+read-tapes-requires c κs =
+    let start = c .before .before .before .before .before .before .before .before .before .before .before .before .before .before .before .before .before .before .before .before .before in
+    (start .pre .0, start .pre .1, (c .before .before .before .before .before .before .before .before .before .before .before) .take-all .ensures ((c .before .before .before .before .before .before) .if1 .taken))
 
 same-length : tie.Need-same-length
 same-length c = search needs
@@ -89,7 +91,9 @@ lay-all-requires c κs =
     )
 
 read-tapes-requires-2 : tie.Need-read-tapes-requires-2
-read-tapes-requires-2 c κs = ((c .before .before .before .before .before .before .before .before .before .before .before .before .before .before .before .before .before .before .before .before .before .before .before .before .before .before .before .before .before .before .before .before .before .before) .pre .0, (c .before .before .before .before .before .before .before .before .before .before .before .before .before .before .before .before .before .before .before .before .before .before .before .before .before .before .before .before .before .before .before .before .before .before) .pre .1, (c .before .before .before .before .before .before .before .before .before) .lay-all .ensures)
+read-tapes-requires-2 c κs =
+    let start = c .before .before .before .before .before .before .before .before .before .before .before .before .before .before .before .before .before .before .before .before .before .before .before .before .before .before .before .before .before .before .before .before .before .before in
+    (start .pre .0, start .pre .1, (c .before .before .before .before .before .before .before .before .before) .lay-all .ensures)
 
 same-length-7 : tie.Need-same-length-7
 same-length-7 c = (c .before .before .before .before .before .before .before .before .before .before .before .before .before .before) .lay-all .kept .1 .1 .1 .0 ∙ ((c .before .before .before .before .before .before .before .before .before .before .before .before .before .before .before .before .before .before .before) .clear .kept .0 ∙ (c .before .before .before .before .before .before .before .before .before .before .before .before .before .before .before .before .before .before .before .before .before .before .before .before .before .before .before .before .before) .take-all .kept .1 .1 .1 .0)

@@ -74,7 +74,9 @@ plan-at : (c : tie.Else4) → answer (c .before .before .before .before .before 
 plan-at c = let J = ready (c .before .before .before .before .before .before .before .before .before .before .before .before .before .before .before .before .before .before) in J .join-is ∙ the-plan (said (c .before .before .before .before .before .before .before .before .before .before .before .before .before .before .before .before .before .before)) (J .some-sheets) (alike-at (c .before .before .before .before .before .before .before .before .before)) (once-at (c .before .before .before .before .before .before)) (none-at (c .before .before)) (few-at c)
 
 heads-requires : tie.Need-heads-requires
-heads-requires c κs = let J = ready (c .before .before .before .before .before .before .before) in (J .some-starts, J .nine, c .before .before .before .before .before .before .before .pre .2)
+heads-requires c κs =
+    let start = c .before .before .before .before .before .before .before in
+    let J = ready start in (J .some-starts, J .nine, start .pre .2)
 
 cast-t18 : tie.Need-cast-t18
 cast-t18 c = omega (arith, c .before .heads .ensures .0, ready (c .before .before .before .before .before .before .before .before .before) .other-small)
@@ -83,7 +85,9 @@ empty-requires : tie.Need-empty-requires
 empty-requires c κs = search needs
 
 returns : tie.Need-returns
-returns c = let J = ready (c .before .before .before .before .before .before .before .before .before .before) in refuse (c .before .before .before .before .before .before .before .before .before .before) 9 (c .before .before .heads .result .other) 0 (J .join-is ∙ other-head (said (c .before .before .before .before .before .before .before .before .before .before)) (J .some-sheets) _ (c .before .before .heads .ensures .0) (c .before .if1 .taken)) _ refl (c .empty .ensures)
+returns c =
+    let start = c .before .before .before .before .before .before .before .before .before .before in
+    let J = ready start in refuse start 9 (c .before .before .heads .result .other) 0 (J .join-is ∙ other-head (said start) (J .some-sheets) _ (c .before .before .heads .ensures .0) (c .before .if1 .taken)) _ refl (c .empty .ensures)
 
 twice-requires : tie.Need-twice-requires
 twice-requires c κs = ready (c .before .before .before .before .before .before .before .before .before .before) .nine
@@ -95,7 +99,9 @@ empty-requires-2 : tie.Need-empty-requires-2
 empty-requires-2 c κs = search needs
 
 returns-2 : tie.Need-returns-2
-returns-2 c = let J = ready (c .before .before .before .before .before .before .before .before .before .before .before .before .before) in refuse (c .before .before .before .before .before .before .before .before .before .before .before .before .before) 10 (c .before .before .twice .result) 0 (J .join-is ∙ number-twice (said (c .before .before .before .before .before .before .before .before .before .before .before .before .before)) (J .some-sheets) (alike-at (c .before .before .before .before)) _ (again-at (c .before .before)) (c .before .if2 .taken)) _ refl (c .empty2 .ensures)
+returns-2 c =
+    let start = c .before .before .before .before .before .before .before .before .before .before .before .before .before in
+    let J = ready start in refuse start 10 (c .before .before .twice .result) 0 (J .join-is ∙ number-twice (said start) (J .some-sheets) (alike-at (c .before .before .before .before)) _ (again-at (c .before .before)) (c .before .if2 .taken)) _ refl (c .empty2 .ensures)
 
 have-requires : tie.Need-have-requires
 have-requires c κs = ready (c .before .before .before .before .before .before .before .before .before .before .before .before) .nine
@@ -110,16 +116,22 @@ empty-requires-3 : tie.Need-empty-requires-3
 empty-requires-3 c κs = search needs
 
 returns-3 : tie.Need-returns-3
-returns-3 c = let J = ready (c .before .before .before .before .before .before .before .before .before .before .before .before .before .before .before .before .before) in refuse (c .before .before .before .before .before .before .before .before .before .before .before .before .before .before .before .before .before) 11 (c .before .before .lowest-missing .result) 0 (J .join-is ∙ number-missing (said (c .before .before .before .before .before .before .before .before .before .before .before .before .before .before .before .before .before)) (J .some-sheets) (alike-at (c .before .before .before .before .before .before .before .before)) (once-at (c .before .before .before .before .before)) _ (low-at (c .before .before)) (c .before .if3 .taken)) _ refl (c .empty3 .ensures)
+returns-3 c =
+    let start = c .before .before .before .before .before .before .before .before .before .before .before .before .before .before .before .before .before in
+    let J = ready start in refuse start 11 (c .before .before .lowest-missing .result) 0 (J .join-is ∙ number-missing (said start) (J .some-sheets) (alike-at (c .before .before .before .before .before .before .before .before)) (once-at (c .before .before .before .before .before)) _ (low-at (c .before .before)) (c .before .if3 .taken)) _ refl (c .empty3 .ensures)
 
 total-rows-requires : tie.Need-total-rows-requires
-total-rows-requires c κs = let J = ready (c .before .before .before .before .before .before .before .before .before .before .before .before .before .before .before .before) in let H = c .before .before .before .before .before .before .before .before in (J .nine, c .before .before .before .before .before .before .before .before .before .before .before .before .before .before .before .before .pre .2, sym (H .heads .ensures .2), omega (arith, H .heads .ensures .1, J .small))
+total-rows-requires c κs =
+    let start = c .before .before .before .before .before .before .before .before .before .before .before .before .before .before .before .before in
+    let J = ready start in let H = c .before .before .before .before .before .before .before .before in (J .nine, start .pre .2, sym (H .heads .ensures .2), omega (arith, H .heads .ensures .1, J .small))
 
 empty-requires-4 : tie.Need-empty-requires-4
 empty-requires-4 c κs = search needs
 
 returns-4 : tie.Need-returns-4
-returns-4 c = let J = ready (c .before .before .before .before .before .before .before .before .before .before .before .before .before .before .before .before .before .before .before) in refuse (c .before .before .before .before .before .before .before .before .before .before .before .before .before .before .before .before .before .before .before) 12 0 0 (J .join-is ∙ too-many (said (c .before .before .before .before .before .before .before .before .before .before .before .before .before .before .before .before .before .before .before)) (J .some-sheets) (alike-at (c .before .before .before .before .before .before .before .before .before .before)) (once-at (c .before .before .before .before .before .before .before)) (none-at (c .before .before .before)) (omega (arith, rows-at (c .before .before), c .before .if4 .taken))) _ refl (c .empty4 .ensures)
+returns-4 c =
+    let start = c .before .before .before .before .before .before .before .before .before .before .before .before .before .before .before .before .before .before .before in
+    let J = ready start in refuse start 12 0 0 (J .join-is ∙ too-many (said start) (J .some-sheets) (alike-at (c .before .before .before .before .before .before .before .before .before .before)) (once-at (c .before .before .before .before .before .before .before)) (none-at (c .before .before .before)) (omega (arith, rows-at (c .before .before), c .before .if4 .taken))) _ refl (c .empty4 .ensures)
 
 fill-all-requires : tie.Need-fill-all-requires
 fill-all-requires c κs =

@@ -86,6 +86,8 @@ loop-less c = omega (arith, (c .before .before .before .before .before .before .
 
 loop-again : tie.Need-loop-again Inv-loop μ-loop
 loop-again c =
+    let at-page-at = c .before .before .before .before .before .before .before .before in
+    let start = at-page-at .before .before .before .before .before .before .before .before .before in
     let v = (c .before .before .before .before .before .before .before .before .before .before) .loop .inv in
     let P = (c .before .before .before .before) .lay-page in
     let h = (c .before .before .before .before .before .before .before .before .before) .loop-test .taken in
@@ -94,8 +96,8 @@ loop-again c =
       high = omega (arith, h);
       tape-long = P .kept .1 .1 .0 ∙ v .tape-long;
       side-long = P .kept .1 .1 .1 .1 .0 ∙ v .side-long;
-      going = again g (omega (arith, h, (c .before .before .before .before .before .before .before .before .before .before .before .before .before .before .before .before .before) .pre .0)) ((c .before .before .before .before .before .before .before .before) .page-at .ensures) (P .ensures .0) (P .kept .1 .1 .0) (P .kept .1 .1 .1 .1 .0);
-      tape-used = omega (arith, last g (omega (arith, h, (c .before .before .before .before .before .before .before .before .before .before .before .before .before .before .before .before .before) .pre .0)) ((c .before .before .before .before .before .before .before .before) .page-at .ensures) (P .ensures .0) (P .kept .1 .1 .0) (P .kept .1 .1 .1 .1 .0), P .ensures .1, v .tape-used);
+      going = again g (omega (arith, h, start .pre .0)) (at-page-at .page-at .ensures) (P .ensures .0) (P .kept .1 .1 .0) (P .kept .1 .1 .1 .1 .0);
+      tape-used = omega (arith, last g (omega (arith, h, start .pre .0)) (at-page-at .page-at .ensures) (P .ensures .0) (P .kept .1 .1 .0) (P .kept .1 .1 .1 .1 .0), P .ensures .1, v .tape-used);
       side-used = omega (arith, P .ensures .2, v .side-used);
     }
 
@@ -106,7 +108,9 @@ same-length-2 : tie.Need-same-length-2 Inv-loop μ-loop
 same-length-2 c = (c .before) .loop .inv .side-long
 
 returns : tie.Need-returns Inv-loop μ-loop
-returns c = taken ((c .before .before .before .before .before .before .before .before) .pre .1) ((c .before .before .before .before .before .before .before .before) .pre .0) (c .loop-test .left) ((c .before) .loop .inv .going)
+returns c =
+    let start = c .before .before .before .before .before .before .before .before in
+    taken (start .pre .1) (start .pre .0) (c .loop-test .left) ((c .before) .loop .inv .going)
 
 pub lay-all-spec : {M : Type 1} → statement M
 lay-all-spec =

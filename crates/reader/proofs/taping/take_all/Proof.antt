@@ -84,13 +84,14 @@ loop-less c = omega (arith, (c .before .before .before .before .before .before .
 
 loop-again : tie.Need-loop-again Inv-loop μ-loop
 loop-again c =
+    let at-loop-test = c .before .before .before .before .before .before .before .before .before .before .before .before .before .before in
     let v = (c .before .before .before .before .before .before .before .before .before .before .before .before .before .before .before) .loop .inv in
     let P = (c .before .before .before .before .before .before) .take in
     record {
-      high = omega (arith, (c .before .before .before .before .before .before .before .before .before .before .before .before .before .before) .loop-test .taken);
+      high = omega (arith, at-loop-test .loop-test .taken);
       tape-long = P .kept .1 .1 .1 .1 .1 .0 ∙ v .tape-long;
       side-long = P .kept .1 .1 .1 .1 .1 .1 .1 .0 ∙ v .side-long;
-      going = again (v .going) (omega (arith, (c .before .before .before .before .before .before .before .before .before .before .before .before .before .before) .loop-test .taken, (c .before .before .before .before .before .before .before .before .before .before .before .before .before .before .before .before .before .before .before .before .before .before .before .before .before) .pre .0)) ((c .before .before .before .before .before .before .before .before .before .before .before .before .before) .page-at .ensures) (P .ensures (c .if1 .left)) (P .kept .1 .1 .1 .1 .1 .0) (P .kept .1 .1 .1 .1 .1 .1 .1 .0);
+      going = again (v .going) (omega (arith, at-loop-test .loop-test .taken, (c .before .before .before .before .before .before .before .before .before .before .before .before .before .before .before .before .before .before .before .before .before .before .before .before .before) .pre .0)) ((c .before .before .before .before .before .before .before .before .before .before .before .before .before) .page-at .ensures) (P .ensures (c .if1 .left)) (P .kept .1 .1 .1 .1 .1 .0) (P .kept .1 .1 .1 .1 .1 .1 .1 .0);
     }
 
 same-length-3 : tie.Need-same-length-3 Inv-loop μ-loop
@@ -100,7 +101,9 @@ same-length-4 : tie.Need-same-length-4 Inv-loop μ-loop
 same-length-4 c = (c .before) .loop .inv .side-long
 
 returns-2 : tie.Need-returns-2 Inv-loop μ-loop
-returns-2 c = λ e. taken ((c .before .before .before .before .before .before .before .before .before .before .before) .pre .1) ((c .before .before .before .before .before .before .before .before .before .before .before) .pre .0) (c .loop-test .left) ((c .before) .loop .inv .going)
+returns-2 c =
+    let start = c .before .before .before .before .before .before .before .before .before .before .before in
+    λ e. taken (start .pre .1) (start .pre .0) (c .loop-test .left) ((c .before) .loop .inv .going)
 
 pub take-all-spec : {M : Type 1} → statement M
 take-all-spec =
