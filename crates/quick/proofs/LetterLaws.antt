@@ -19,10 +19,11 @@ use Rattle.paper.proofs.Small.{below, below-at, both}
 use Rattle.fields.specs.Places.{kindAt, placeIn, firstOf, countOf}
 use Rattle.fields.proofs.ColumnLaws.{fits-entry}
 use Rattle.room.proofs.Runs.{run-ends, run-on}
-use Rattle.quick.specs.Passed.{RawAt}
+use Rattle.quoted.specs.Raws.{RawAt}
 use Rattle.quick.specs.Letters.{letterTable, LetterAt}
 use Rattle.quick.specs.Taken.{attr, NamedAt}
-use Rattle.quick.proofs.PassedLaws.{in-it, no-nought, letter-in, attr-derives}
+use Rattle.quoted.proofs.Pieces.{in-it}
+use Rattle.quick.proofs.PassedLaws.{no-nought, letter-in, attr-derives}
 use Rattle.quick.proofs.TagLaws.{letter-at}
 
 -- ---- the table

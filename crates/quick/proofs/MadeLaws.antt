@@ -24,7 +24,7 @@ use Rattle.sheet.proofs.FoldContent.{fold-sheet}
 use Rattle.sheet.proofs.JudgeLaws.{on-end, on-nothing}
 use Rattle.quick.specs.Passed.{InsideAt, parentOf, openNames, NameAt, PageAt}
 use Rattle.tape.specs.Tape.{header, Elem, elem, startsOf, elemsOf, sheetBy, ElemAt, Lies, Taped, Kept, Makes}
-use Rattle.quick.specs.Valued.{Grown}
+use Rattle.quoted.specs.Valued.{Grown}
 use Rattle.quick.specs.Taken.{TagIn}
 use Rattle.quick.specs.Stepped.{StepIn, EndAt, On}
 use Rattle.tape.proofs.TapeLaws.{lies-more, lies-up, starts-append, sheet-by}

@@ -27,11 +27,12 @@ use Rattle.sheet.specs.Fold.{strange}
 use Rattle.sheet.specs.Found.{rawsIn, settledIn, thereIn}
 use Rattle.sheet.proofs.FoundLaws.{slots-found, names-append, raws-more, there-more, every-seam, once-more, fits, there-place}
 use Rattle.tape.specs.Tape.{aside, shownIn, valuesAt, standing, Span, Spans, Holds}
-use Rattle.quick.specs.Valued.{Valued, Grown}
+use Rattle.quoted.specs.Valued.{Valued, Grown}
 use Rattle.quick.specs.Taken.{attr, AttrIn, InsideIn}
 use Rattle.tape.proofs.TapeLaws.{values-more, spans-more}
 use Rattle.room.proofs.Alike.{Agree, take-more}
-use Rattle.quick.proofs.PassedLaws.{part, all-run, spaced, last}
+use Rattle.quoted.proofs.Pieces.{part, all-run}
+use Rattle.quick.proofs.PassedLaws.{spaced, last}
 
 -- ---- two numbers are put at a place
 

@@ -15,7 +15,7 @@ use Rattle.fields.specs.Places.{kindAt}
 use Rattle.sheet.specs.Fold.{kindUnder, kidsOf}
 use Rattle.sheet.specs.Content.{kindNamed}
 use Rattle.quick.specs.Passed.{InsideAt, parentOf, openNames, Kid, NameAt}
-use Rattle.quick.proofs.PassedLaws.{all-run}
+use Rattle.quoted.proofs.Pieces.{all-run}
 
 -- ---- the rest of a page from a place on
 

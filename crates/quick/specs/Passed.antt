@@ -1,40 +1,18 @@
 -- Passed: parts of a page that are surely well-formed, told by the grammar: whatever may follow, may follow them.
 -- Assumes nothing.
 use mathlib.Core.Path.{_≡_}
-use mathlib.Core.Bool.{Bool, true, false, _||_}
+use mathlib.Core.Bool.{true, false}
 use mathlib.Core.List.{List, [], _∷_, _++_}
 use Prim.Native.Nat.{ℕ, _≤_, _<_}
 use lib.Dec.{eqb, ltb}
-use lib.ListN.{length, getD}
+use lib.ListN.{length}
 use lib.Seq.{slice}
 use Rattle.paper.specs.Lists.{if}
-use Rattle.paper.specs.Bytes.{isDigit, isLetter}
-use Rattle.paper.specs.Grammar.{Attr, Attrs, Tag, Name, Page, isHex, Ref, Raw}
+use Rattle.paper.specs.Bytes.{isLetter}
+use Rattle.paper.specs.Grammar.{Attr, Attrs, Tag, Name, Page}
 use Rattle.fields.specs.Places.{kindAt}
 use Rattle.sheet.specs.Fold.{kindUnder}
 use Rattle.sheet.specs.Content.{kindNamed}
-
--- ---- values
-
--- a digit of a reference, hexadecimal or decimal
-abbrev pub numeral : Bool → ℕ → Bool
-numeral true c = isHex c
-numeral false c = isDigit c
-
--- a byte that is not ordinary, and may stand in a value in other quotes than itself
-abbrev pub rare : ℕ → Bool
-rare c = eqb c 126 || (eqb c 10 || (eqb c 13 || (eqb c 9 || (eqb c 34 || eqb c 39))))
-
--- the bytes of w from a up to r are a reference without its `&`
-pub record RefAt (w : List ℕ) (a r : ℕ) : Type 0 where
-  pub within : (a < r) × (r ≤ length w)
-  pub ref : Ref (slice a r w)
-
--- the bytes of w from a up to the quote q at r are the raw bytes of a value
-pub record RawAt (w : List ℕ) (a q r : ℕ) : Type 0 where
-  pub within : (a ≤ r) × (r < length w)
-  pub closes : getD w r 0 ≡ q
-  pub raw : Raw q (slice a r w)
 
 -- ---- attributes
 

@@ -12,7 +12,7 @@ use Rattle.sheet.specs.Judged.{stOf, Sound}
 use Rattle.sheet.specs.declared.state.State.{State}
 use Rattle.quick.specs.Passed.{openNames, NameAt}
 use Rattle.tape.specs.Tape.{startsOf, Lies}
-use Rattle.quick.specs.Valued.{Grown}
+use Rattle.quoted.specs.Valued.{Grown}
 
 -- from i up to r a start tag is passed, in the state st before it and st′ behind it; its element lies on the tape from f up to f′
 pub record StepIn (w : List ℕ) (i r : ℕ) (st st′ : State) (t t′ : List ℕ) (f f′ : ℕ) (side side′ : List ℕ) (m m′ : ℕ) : Type 0 where

@@ -9,11 +9,11 @@ use lib.Seq.{slice}
 use Rattle.paper.specs.Grammar.{Attr, Attrs, Quote}
 use Rattle.paper.specs.Fields.{Kind, fieldsOf}
 use Rattle.fields.specs.Places.{placeIn, firstOf}
-use Rattle.quick.specs.Passed.{RawAt}
+use Rattle.quoted.specs.Raws.{RawAt}
 use Rattle.paper.specs.Judging.{names, slotsOf}
 use Rattle.sheet.specs.Fold.{strange, flaw, needsW}
 use Rattle.tape.specs.Tape.{header, elem, Holds, ElemAt}
-use Rattle.quick.specs.Valued.{Valued, Grown}
+use Rattle.quoted.specs.Valued.{Valued, Grown}
 
 -- an attribute by its name and its raw bytes
 abbrev pub attr : List ℕ → List ℕ → Attr

@@ -11,7 +11,7 @@ ghost use Rattle.fields.specs.Places.{kindAt};
 ghost use Rattle.sheet.specs.Fold.{needsW};
 ghost use Rattle.tape.specs.Tape.{shownIn, Span, Spans, Holds};
 ghost use Rattle.quick.specs.Fits as Spec;
-use crate::value::ASIDE;
+use quoted::value::ASIDE;
 use sheet::flaws::digits_flaw;
 
 // The numbers of elements.

@@ -9,7 +9,7 @@ ghost use Rattle.sheet.specs.Judged.{Sound};
 ghost use Rattle.fields.specs.Places.{kindAt};
 ghost use Rattle.tape.specs.Tape.{aside, Makes};
 ghost use Rattle.quick.specs.Letters.{Names};
-ghost use Rattle.quick.specs.Valued.{Tables};
+ghost use Rattle.quoted.specs.Valued.{Tables};
 ghost use Rattle.quick.specs.Taken.{TagIn};
 ghost use Rattle.quick.specs.Stepped.{StepIn, EndAt, On};
 use crate::fits::needs_w;

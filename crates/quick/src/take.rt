@@ -9,7 +9,7 @@ ghost use Rattle.paper.specs.Fields.{fieldsOf};
 ghost use Rattle.fields.specs.Places.{kindAt};
 ghost use Rattle.tape.specs.Tape.{aside};
 ghost use Rattle.quick.specs.Letters.{Names};
-ghost use Rattle.quick.specs.Valued.{Tables};
+ghost use Rattle.quoted.specs.Valued.{Tables};
 ghost use Rattle.quick.specs.Taken.{NamedAt, AttrIn, InsideIn};
 use crate::attrs::is_letter;
 use crate::attrs::is_quote;
@@ -18,8 +18,8 @@ use crate::names::count_in;
 use crate::names::field_by;
 use crate::names::first_in;
 use crate::names::letter_place;
-use crate::value::take_value;
 use markup::walk::run;
+use quoted::value::take_value;
 use room::byte_or;
 
 // An attribute's name and opening quote: the place of its field among its element's, where its value begins (0: it is not surely fine), and the quote.

@@ -7,7 +7,7 @@ ghost use Rattle.paper.specs.Calls.{inside, pagesAt};
 ghost use Rattle.tape.specs.Tape.{aside, Makes};
 ghost use Rattle.tape.specs.Rooms.{tapeRoom, sideRoom};
 ghost use Rattle.quick.specs.Letters.{Names};
-ghost use Rattle.quick.specs.Valued.{Tables};
+ghost use Rattle.quoted.specs.Valued.{Tables};
 ghost use Rattle.page.specs.Walking.{blanks, Blank};
 ghost use Rattle.reader.specs.Tapes.{Taken, AllSheets};
 use crate::joining::page_at;
@@ -16,9 +16,9 @@ use fields::lookup::limits;
 use fields::places::FIELDS;
 use plan::Plan;
 use quick::names::letter_table;
-use quick::odd_table;
 use quick::pages::Made;
 use quick::pages::take_page;
+use quoted::odd_table;
 use tape::exact::lay_page;
 
 // How many numbers a tape begins with that are 0: the values of an element that is not there.

@@ -5,7 +5,7 @@ use Prim.Native.Nat.{_+_, _<_}
 use native.Mathlib.Omega.{arith}
 use lib.ListN.{length}
 use borrow.Author.Needs.{needs}
-use Rattle.quick.proofs.PassedLaws.{in-it}
+use Rattle.quoted.proofs.Pieces.{in-it}
 use Rattle.quick.proofs.pages.end_behind.Statement.{statement}
 use Rattle.quick.proofs.pages.end_behind.Tie as tie
 

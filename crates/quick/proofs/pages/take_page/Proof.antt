@@ -7,7 +7,7 @@ use lib.ListN.{length, getD}
 use borrow.Author.Needs.{needs}
 use Rattle.sheet.specs.Judged.{faultOf}
 use Rattle.quick.specs.Stepped.{On}
-use Rattle.quick.proofs.PassedLaws.{in-it}
+use Rattle.quoted.proofs.Pieces.{in-it}
 use Rattle.quick.proofs.MadeLaws.{on-here, on-step, on-close, on-done, makes-from}
 use Rattle.quick.proofs.pages.take_page.Statement.{statement}
 use Rattle.quick.proofs.pages.take_page.Tie as tie

@@ -7,7 +7,7 @@ use lib.ListN.{length, getD}
 use borrow.Author.Needs.{needs}
 use Rattle.fields.specs.Places.{kindAt}
 use Rattle.sheet.specs.Fold.{barred}
-use Rattle.quick.proofs.PassedLaws.{in-it}
+use Rattle.quoted.proofs.Pieces.{in-it}
 use Rattle.quick.proofs.MadeLaws.{root-free, on-first}
 use Rattle.quick.proofs.pages.take_root.Statement.{statement}
 use Rattle.quick.proofs.pages.take_root.Tie as tie

@@ -13,7 +13,8 @@ use Rattle.fields.specs.Places.{kindAt, placeIn}
 use Rattle.room.proofs.Parts.{part-is}
 use borrow.Author.Tests.{not-false}
 use borrow.Author.Needs.{needs}
-use Rattle.quick.proofs.PassedLaws.{in-it, no-nought, begins, attr-derives}
+use Rattle.quoted.proofs.Pieces.{in-it}
+use Rattle.quick.proofs.PassedLaws.{no-nought, begins, attr-derives}
 use Rattle.quick.proofs.SlotLaws.{uncounted}
 use Rattle.quick.proofs.take.any_name.Statement.{statement}
 use Rattle.quick.proofs.take.any_name.Tie as tie

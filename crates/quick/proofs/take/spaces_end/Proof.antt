@@ -7,7 +7,7 @@ use mathlib.Core.Bool.{true}
 use lib.ListN.{length, getD}
 use Rattle.paper.specs.Bytes.{isSpace}
 use Rattle.room.proofs.Runs.{run-on}
-use Rattle.quick.proofs.PassedLaws.{in-it}
+use Rattle.quoted.proofs.Pieces.{in-it}
 use Rattle.quick.proofs.LetterLaws.{none-passed, high-mark}
 use borrow.Author.Needs.{needs}
 use Rattle.quick.proofs.take.spaces_end.Statement.{statement}

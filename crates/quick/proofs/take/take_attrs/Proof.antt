@@ -6,7 +6,7 @@ use native.Mathlib.Omega.{arith}
 use lib.ListN.{length, getD}
 use Rattle.fields.specs.Places.{kindAt, countOf}
 use borrow.Author.Needs.{needs}
-use Rattle.quick.proofs.PassedLaws.{in-it}
+use Rattle.quoted.proofs.Pieces.{in-it}
 use Rattle.quick.proofs.SlotLaws.{so-many, HeldIn, held-none, again-in, inside-in, inside-from}
 use Rattle.quick.proofs.take.take_attrs.Statement.{statement}
 use Rattle.quick.proofs.take.take_attrs.Tie as tie
