@@ -21,6 +21,7 @@ use crate::names::letter_place;
 use markup::walk::run;
 use quoted::value::take_value;
 use room::byte_or;
+use room::clear;
 
 // An attribute's name and opening quote: the place of its field among its element's, where its value begins (0: it is not surely fine), and the quote.
 struct Named {
@@ -165,18 +166,6 @@ fn take_attr(
     Taken {
         at: judged.quote + 1,
         used: judged.used,
-    }
-}
-
-// Clears the tape from one place up to another.
-pub fn clear(tape: &mut [u16], from: usize, to: usize)
-    requires { ⌜ (from ≤ to) × (to ≤ length (now tape)) ⌝ }
-    ensures { λ r. ⌜ (take from (now (tape .exit)) ≡ take from (now (tape .entry))) × ((j : ℕ) → from ≤ j → j < to → getD (now (tape .exit)) j 0 ≡ 0) ⌝ }
-{
-    let mut i = from;
-    while i < to {
-        tape[i] = 0;
-        i += 1;
     }
 }
 

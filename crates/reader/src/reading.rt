@@ -31,7 +31,7 @@ use crate::taping::ONE;
 use crate::taping::lay_all;
 use crate::taping::take_all;
 use plan::Plan;
-use quick::take::clear;
+use room::clear;
 use sheet::judge::Verdict;
 use sheet::judge::judge_page;
 

@@ -1,8 +1,8 @@
 // Room: bytes and numbers laid into a lent room, bytes looked at and compared, whatever they are of.
 ghost use mathlib.Core.Path.{_≡_};
-ghost use Prim.Native.Nat.{_+_, _≤_};
+ghost use Prim.Native.Nat.{ℕ, _+_, _≤_, _<_};
 ghost use lib.Dec.{leb};
-ghost use lib.ListN.{length, getD};
+ghost use lib.ListN.{length, getD, take};
 ghost use lib.Seq.{slice};
 ghost use Rattle.paper.specs.Lists.{same};
 ghost use Rattle.room.specs.Laid.{laid};
@@ -73,6 +73,18 @@ pub fn lay_numbers(out: &mut [u32], n: usize, numbers: &[u32])
     let mut i = 0;
     while i < numbers.len() {
         out[n + i] = numbers[i];
+        i += 1;
+    }
+}
+
+// Puts 0 at every place from one up to another. The numbers before stay.
+pub fn clear(numbers: &mut [u16], from: usize, to: usize)
+    requires { ⌜ (from ≤ to) × (to ≤ length (now numbers)) ⌝ }
+    ensures { λ _. ⌜ (take from (now (numbers .exit)) ≡ take from (now (numbers .entry))) × ((j : ℕ) → from ≤ j → j < to → getD (now (numbers .exit)) j 0 ≡ 0) ⌝ }
+{
+    let mut i = from;
+    while i < to {
+        numbers[i] = 0;
         i += 1;
     }
 }
