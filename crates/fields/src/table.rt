@@ -168,6 +168,9 @@ pub const CHILD_COUNTS: [u8; 11] = [
     1, // outside
 ];
 
+// How many numbers the raw values of an element take at most, two to a field: no element has more fields than there are lines.
+pub const RAWS: usize = 104;
+
 // The place of each element's first field, by the element's number; one past the table for an element without fields. Six bits to each, the first lowest:
 // 52 0 6 14 24 31 33 47 49 51.
 pub const FIRSTS: u64 = 932735607463501876;

@@ -13,6 +13,7 @@ use Rattle.paper.specs.Plan.{Slots, sameSlots}
 use Rattle.page.specs.Laying.{Room, Lays}
 use Rattle.page.proofs.ContentLaws.{Going, turn, room-left, room-first, room-one, regoing, replaced}
 use Rattle.room.proofs.Parts.{part-is}
+use Rattle.room.proofs.PairLaws.{pairs-long, pairs-at, each-at}
 use Rattle.tape.specs.Tape.{shownIn, valuesAt, Span, Spans}
 
 -- a value in the page, and one in the side room
@@ -36,8 +37,7 @@ number-whole v u e = let z : length v - 0 ≡ length v = omega arith in rw z (ap
 
 -- as many values as pairs
 pub values-long : (w x : List ℕ) (n : ℕ) (t : List ℕ) (i : ℕ) → length (valuesAt w x n t i) ≡ n
-values-long w x zero t i = refl
-values-long w x (suc n) t i = ap suc (values-long w x n t (i + 2))
+values-long w x n t i = pairs-long (shownIn w x) n t i
 
 module _ (w x t : List ℕ) where
   -- the value that the next two numbers tell
@@ -54,14 +54,10 @@ module _ (w x t : List ℕ) where
 
   -- one of the values by its place
   pub values-at : (i n j : ℕ) → j < n → getD (valuesAt w x n t i) j [] ≡ shownAt (i + 2 * j)
-  values-at i zero j h = absurd (omega arith)
-  values-at i (suc n) zero h = let e : i + 2 * 0 ≡ i = omega arith in rw e
-  values-at i (suc n) (suc j) h = let e : i + 2 + 2 * j ≡ i + 2 * suc j = omega arith in rw e at (values-at (i + 2) n j (omega arith))
+  values-at i n j h = pairs-at (shownIn w x) n t i j [] h
 
   pub span-at : (m i n j : ℕ) → j < n → Spans w m n t i → Span w m (getD t (i + 2 * j) 0) (getD t (i + 2 * j + 1) 0)
-  span-at m i zero j h L = absurd (omega arith)
-  span-at m i (suc n) zero h L = let e : i + 2 * 0 ≡ i = omega arith in rw e (L .0)
-  span-at m i (suc n) (suc j) h L = let e : i + 2 + 2 * j ≡ i + 2 * suc j = omega arith in rw e at (span-at m (i + 2) n j (omega arith) (L .1))
+  span-at m i n j h L = each-at (Span w m) n t i j h L
 
 -- values are being laid: the next one
 module _ {all : Slots} {text₀ text : List ℕ} {n m : ℕ} {numbers₀ numbers : List ℕ} {at b : ℕ} (w x t : List ℕ) (i k : ℕ)

@@ -20,13 +20,14 @@ use Rattle.paper.proofs.Small.{no, neither}
 use Rattle.paper.proofs.Small as Small
 use Rattle.fields.specs.Places.{noField, kindAt}
 use Rattle.fields.proofs.TableLaws.{code-back}
+use Rattle.room.proofs.PairLaws.{pairs-at, each-at}
 use Rattle.sheet.specs.Fold.{flaw, needsW}
 use Rattle.sheet.specs.Found.{thereIn}
 use Rattle.sheet.specs.Flaws.{digitsFlaw}
+use Rattle.sheet.proofs.FoundLaws.{standing-at}
 use Rattle.sheet.proofs.FlawLaws.{is-medication, One, one-digit, unbroken-at, by-digits, pairFlaw}
-use Rattle.tape.specs.Tape.{aside, shownIn, valuesAt, standing, Span, Spans, Holds}
+use Rattle.tape.specs.Tape.{aside, shownIn, valuesAt, Span, Spans, Holds}
 use Rattle.quick.specs.Fits.{present, stands, both, Fits}
-use Rattle.quick.proofs.SlotLaws.{standing-at}
 
 -- ---- one value
 
@@ -65,14 +66,10 @@ module _ (w side : List ℕ) (a b : ℕ) (sp : Span w (length side) a b) where
 
 module _ (w side t : List ℕ) where
   pub span-at : (n i j : ℕ) → j < n → Spans w (length side) n t i → Span w (length side) (getD t (i + 2 * j) 0) (getD t (i + 2 * j + 1) 0)
-  span-at zero i j h sp = absurd (omega arith)
-  span-at (suc n) i zero h sp = let z : i + 2 * 0 ≡ i = omega arith in rw z (sp .0)
-  span-at (suc n) i (suc j) h sp = let z : i + 2 * suc j ≡ i + 2 + 2 * j = omega arith in rw z (span-at n (i + 2) j (omega arith) (sp .1))
+  span-at n i j h sp = each-at (Span w (length side)) n t i j h sp
 
   pub value-at : (n i j : ℕ) → j < n → getD (valuesAt w side n t i) j [] ≡ shownIn w side (getD t (i + 2 * j) 0) (getD t (i + 2 * j + 1) 0)
-  value-at zero i j h = absurd (omega arith)
-  value-at (suc n) i zero h = let z : i + 2 * 0 ≡ i = omega arith in rw z
-  value-at (suc n) i (suc j) h = let z : i + 2 * suc j ≡ i + 2 + 2 * j = omega arith in rw z (value-at n (i + 2) j (omega arith))
+  value-at n i j h = pairs-at (shownIn w side) n t i j [] h
 
 module _ {w side : List ℕ} {k : Kind} {t : List ℕ} {i : ℕ} {l : List Attr} (H : Holds w side (length side) k t i l) where
   slot-is : (j : ℕ) → j < length (fieldsOf k) → getD (slotsOf (fieldsOf k) l) j [] ≡ shownIn w side (getD t (i + 2 * j) 0) (getD t (i + 2 * j + 1) 0)

@@ -1,7 +1,6 @@
 -- SlotLaws: one attribute more on the tape.
 -- Assumes nothing.
 use mathlib.Core.Path.{_≡_, refl, sym, ap, _∙_, subst}
-use mathlib.Core.Logic.{_≢_}
 use mathlib.Core.Bool.{Bool, true, false, not, _||_}
 use mathlib.Core.List.{List, [], _∷_, _++_, append-assoc, append-nil}
 use Prim.Native.Nat.{ℕ, zero, suc, _+_, _*_, _≤_, _<_}
@@ -9,8 +8,8 @@ use native.Mathlib.Nat.{add-zero}
 use native.Mathlib.Omega.{arith}
 use lib.Dec.{eqb, ltb}
 use lib.ListN.{length, getD, set, take, drop, length-set}
-use lib.Seq.{slice, slice-empty, slice-cons, getD-set-same, getD-set-other, take-set-le}
-use borrow.Author.Tests.{ne-eqb, eq-eqb, lt-ltb, ltb-true, ltb-false}
+use lib.Seq.{slice, slice-empty, slice-cons, take-set-le}
+use borrow.Author.Tests.{eq-eqb, lt-ltb, ltb-true, ltb-false}
 use Rattle.paper.specs.Lists.{if, until, All, elem, twice, every}
 use Rattle.paper.specs.Bytes.{isSpace}
 use Rattle.paper.specs.Grammar.{Attr, Attrs, space, Space}
@@ -25,84 +24,15 @@ use Rattle.fields.specs.Places.{noField, placeIn, firstOf, fieldAt, countOf}
 use Rattle.fields.proofs.TableLaws.{known, field-at}
 use Rattle.sheet.specs.Fold.{strange}
 use Rattle.sheet.specs.Found.{rawsIn, settledIn, thereIn}
-use Rattle.sheet.proofs.FoundLaws.{slots-found, names-append, raws-more, there-more, every-seam, once-more, fits, there-place}
-use Rattle.tape.specs.Tape.{aside, shownIn, valuesAt, standing, Span, Spans, Holds}
+use Rattle.sheet.proofs.FoundLaws.{slots-found, names-append, raws-more, there-more, every-seam, once-more, fits, there-place, standing-at, standing-put, standing-none}
+use Rattle.tape.specs.Tape.{aside, shownIn, valuesAt, Span, Holds}
 use Rattle.quoted.specs.Valued.{Valued, Grown}
 use Rattle.quick.specs.Taken.{attr, AttrIn, InsideIn}
 use Rattle.tape.proofs.TapeLaws.{values-more, spans-more}
-use Rattle.room.proofs.Alike.{Agree, take-more}
+use Rattle.room.proofs.Alike.{take-more}
+use Rattle.room.proofs.PairLaws.{pairs-put, each-put, each-none}
 use Rattle.quoted.proofs.Pieces.{part, all-run}
 use Rattle.quick.proofs.PassedLaws.{spaced, last}
-
--- ---- two numbers are put at a place
-
-abbrev put : List ℕ → ℕ → ℕ → ℕ → List ℕ
-put t s a b = set (set t s a) (s + 1) b
-
-put-other : (t : List ℕ) (s a b k : ℕ) → k ≢ s → k ≢ s + 1 → getD (put t s a b) k 0 ≡ getD t k 0
-put-other t s a b k h g = getD-set-other (set t s a) (s + 1) k b 0 g ∙ getD-set-other t s k a 0 h
-
-put-one : (t : List ℕ) (s a b : ℕ) → s < length t → getD (put t s a b) s 0 ≡ a
-put-one t s a b h = getD-set-other (set t s a) (s + 1) s b 0 (λ e. omega arith) ∙ getD-set-same t s a 0 h
-
-put-two : (t : List ℕ) (s a b : ℕ) → s + 1 < length t → getD (put t s a b) (s + 1) 0 ≡ b
-put-two t s a b h = getD-set-same (set t s a) (s + 1) b 0 (rw (length-set t s a) h)
-
--- pairs that are not touched
-module _ (w side : List ℕ) (m : ℕ) (t : List ℕ) (s a b : ℕ) where
-  agree-behind : (i j : ℕ) → s + 2 ≤ i → Agree t (put t s a b) i j
-  agree-behind i j h k l r = put-other t s a b k (λ e. omega arith) (λ e. omega arith)
-
-  standing-behind : (n i : ℕ) → s + 2 ≤ i → standing n (put t s a b) i ≡ standing n t i
-  standing-behind zero i h = refl
-  standing-behind (suc n) i h = rw (put-other t s a b i (λ e. omega arith) (λ e. omega arith), standing-behind n (i + 2) (omega arith))
-
-  values-behind : (n i : ℕ) → s + 2 ≤ i → valuesAt w side n (put t s a b) i ≡ valuesAt w side n t i
-  values-behind zero i h = refl
-  values-behind (suc n) i h =
-      rw (put-other t s a b i (λ e. omega arith) (λ e. omega arith), put-other t s a b (i + 1) (λ e. omega arith) (λ e. omega arith), values-behind n (i + 2) (omega arith))
-
-  spans-behind : (n i : ℕ) → s + 2 ≤ i → Spans w m n t i → Spans w m n (put t s a b) i
-  spans-behind zero i h S = tt
-  spans-behind (suc n) i h S =
-      (rw (put-other t s a b i (λ e. omega arith) (λ e. omega arith), put-other t s a b (i + 1) (λ e. omega arith) (λ e. omega arith)) (S .0), spans-behind n (i + 2) (omega arith) (S .1))
-
--- pair j of n
-module _ (w side : List ℕ) (m : ℕ) (t : List ℕ) (a b : ℕ) where
-  pub values-put : (n i j s : ℕ) → j < n → s ≡ i + 2 * j → i + 2 * n ≤ length t → valuesAt w side n (put t s a b) i ≡ set (valuesAt w side n t i) j (shownIn w side a b)
-  values-put zero i j s h e l = absurd (omega arith)
-  values-put (suc n) i zero s h e l =
-      let z : s ≡ i = omega arith in
-      rw (z, put-one t i a b (omega arith), put-two t i a b (omega arith), values-behind w side m t i a b n (i + 2) (omega arith))
-  values-put (suc n) i (suc j) s h e l =
-      rw (
-        put-other t s a b i (λ q. omega arith) (λ q. omega arith),
-        put-other t s a b (i + 1) (λ q. omega arith) (λ q. omega arith),
-        values-put n (i + 2) j s (omega arith) (omega arith) (omega arith),
-      )
-
-  pub standing-put : (n i j s : ℕ) → j < n → s ≡ i + 2 * j → i + 2 * n ≤ length t → 0 < a → standing n (put t s a b) i ≡ set (standing n t i) j true
-  standing-put zero i j s h e l p = absurd (omega arith)
-  standing-put (suc n) i zero s h e l p =
-      let z : s ≡ i = omega arith in
-      rw (z, put-one t i a b (omega arith), ne-eqb a 0 (λ q. omega arith), standing-behind w side m t i a b n (i + 2) (omega arith))
-  standing-put (suc n) i (suc j) s h e l p =
-      rw (put-other t s a b i (λ q. omega arith) (λ q. omega arith), standing-put n (i + 2) j s (omega arith) (omega arith) (omega arith) p)
-
-  pub spans-put : (n i j s : ℕ) → j < n → s ≡ i + 2 * j → i + 2 * n ≤ length t → Span w m a b → Spans w m n t i → Spans w m n (put t s a b) i
-  spans-put zero i j s h e l p S = tt
-  spans-put (suc n) i zero s h e l p S =
-      let z : s ≡ i = omega arith in
-      (rw (z, put-one t i a b (omega arith), put-two t i a b (omega arith)) p, rw z (spans-behind w side m t i a b n (i + 2) (omega arith) (S .1)))
-  spans-put (suc n) i (suc j) s h e l p S = (
-    rw (put-other t s a b i (λ q. omega arith) (λ q. omega arith), put-other t s a b (i + 1) (λ q. omega arith) (λ q. omega arith)) (S .0),
-    spans-put n (i + 2) j s (omega arith) (omega arith) (omega arith) p (S .1),
-  )
-
-pub standing-at : (n : ℕ) (t : List ℕ) (i j : ℕ) → j < n → getD (standing n t i) j false ≡ not (eqb (getD t (i + 2 * j) 0) 0)
-standing-at zero t i j h = absurd (omega arith)
-standing-at (suc n) t i zero h = let z : i + 2 * 0 ≡ i = omega arith in rw z
-standing-at (suc n) t i (suc j) h = let z : i + 2 * suc j ≡ i + 2 + 2 * j = omega arith in rw z (standing-at n t (i + 2) j (omega arith))
 
 -- ---- the values that count, with one attribute more
 
@@ -188,17 +118,6 @@ values-none w side (f ∷ fs) t i h =
       values-none w side fs t (i + 2) (λ j a b. h j (omega arith) (omega arith)),
     )
 
-standing-none : (fs : List Field) (t : List ℕ) (i : ℕ) → ((j : ℕ) → i ≤ j → j < i + 2 * length fs → getD t j 0 ≡ 0) → standing (length fs) t i ≡ thereIn fs []
-standing-none [] t i h = refl
-standing-none (f ∷ fs) t i h = rw (h i (omega arith) (omega arith), standing-none fs t (i + 2) (λ j a b. h j (omega arith) (omega arith)))
-
-spans-none : (w : List ℕ) (m n : ℕ) (t : List ℕ) (i : ℕ) → ((j : ℕ) → i ≤ j → j < i + 2 * n → getD t j 0 ≡ 0) → Spans w m n t i
-spans-none w m zero t i h = tt
-spans-none w m (suc n) t i h = (
-  rw (h i (omega arith) (omega arith), h (i + 1) (omega arith) (omega arith)) (record { inner = λ x. (omega arith, omega arith); outer = λ x. absurd (omega arith) }),
-  spans-none w m n t (i + 2) (λ j a b. h j (omega arith) (omega arith)),
-)
-
 broken-none : (fs : List Field) → broken fs (slotsOf fs []) ≡ false
 broken-none [] = refl
 broken-none (f ∷ fs) = rw (if-same {A = List ℕ} (isZero (f .rule) []) [], broken-none fs)
@@ -211,7 +130,7 @@ held-none w k base from t₀ t side m h z e r b q = record {
   within = (omega arith, h);
   so-far = λ x l d. rw (slice-empty from w) d;
   holds = record {
-    lie = spans-none w m (length (fieldsOf k)) t base z;
+    lie = each-none (Span w m) (length (fieldsOf k)) t base (record { inner = λ x. (omega arith, omega arith); outer = λ x. absurd (omega arith) }) z;
     slots = values-none w side (fieldsOf k) t base z;
     there = standing-none (fieldsOf k) t base z;
     known = refl;
@@ -258,10 +177,10 @@ module _ {w : List ℕ} {k : Kind} {base from i : ℕ} {t₀ t side₀ side : Li
             let d3 : Attrs false (slice i r w ++ x) (attr n (A .raw) ∷ z) = rw e d2 in
             rw (part w x from i r (q .0) (omega (arith, g .0)) (g .1), append-assoc l (attr n (A .raw) ∷ []) z) (H .so-far (slice i r w ++ x) (attr n (A .raw) ∷ z) d3);
         holds = rw (A .tape-is) (record {
-          lie = spans-put w side′ m′ t (A .from) (A .to) (length fs) base j s (A .known) refl (H .wide .0) (val .span) lie;
-          slots = values-put w side′ m′ t (A .from) (A .to) (length fs) base j s (A .known) refl (H .wide .0)
+          lie = each-put (Span w m′) t (A .from) (A .to) (length fs) base j s (A .known) refl (H .wide .0) (val .span) lie;
+          slots = pairs-put (shownIn w side′) t (A .from) (A .to) (length fs) base j s (A .known) refl (H .wide .0)
               ∙ rw (was, H .holds .slots, shown) (sym more);
-          there = standing-put w side′ m′ t (A .from) (A .to) (length fs) base j s (A .known) refl (H .wide .0) (val .stands)
+          there = standing-put t (A .from) (A .to) (length fs) base j s (A .known) refl (H .wide .0) (val .stands)
               ∙ rw (H .holds .there) (sym (there-more fs l n (A .raw) (distinct k)));
           known = strange-more k l n (A .raw) new (H .holds .known) (A .known);
           kept = rw more (broken-put fs (slotsOf fs l) j (settle (getD fs j noField) (value (A .raw))) (H .holds .kept) (rw (f, A .raw-is) (val .kept)));

@@ -1,4 +1,4 @@
--- FlawLaws: the faults of an element's own tag by the spans of its attributes: a value that a span shows, the fields one after another, the
+-- FlawLaws: the faults of an element's own tag by the raw values of its attributes: a value in the page, the fields one after another, the
 -- excluded pairs one after another, and MP's own rules.
 -- Assumes nothing.
 use mathlib.Core.Path.{_≡_, refl, ap, sym, _∙_, subst}
@@ -21,16 +21,16 @@ use Rattle.paper.specs.Plan.{Slots, slot}
 use Rattle.paper.specs.Judging.{names, slotsOf, breaks, broken, missing, clash, mpVersion, mpOver, mpHalf}
 use Rattle.paper.proofs.Small.{no, both, neither, if-same, below-at}
 use Rattle.room.specs.Laid.{laid}
+use Rattle.room.proofs.PairLaws.{pairs-long}
 use Rattle.fields.specs.Places.{kindAt, noField, ruleAt, ruleNumber, fieldAt, fieldFlaw, placeIn, firstOf, countOf, onesOf, othersOf}
 use Rattle.fields.proofs.TableLaws.{field-at, code-back}
 use Rattle.fields.proofs.RuleLaws.{rule-back}
-use Rattle.sheet.specs.declared.found.Raw.{Raw}
 use Rattle.sheet.specs.Fold.{flaw, needsW}
-use Rattle.sheet.specs.Found.{settledIn, thereIn, noRaw, shownBy, rawsAt, told, thereAt, Tells}
+use Rattle.sheet.specs.Found.{settledIn, thereIn, rawAt, rawsAt, told, standing, Tells}
 use Rattle.sheet.specs.Flaws.{settleBy, fieldsFlaw, pagesFlaw, digitsFlaw, clashThere, clashAt}
-use Rattle.sheet.proofs.FoundLaws.{slots-found, shown-at, there-at, there-place}
+use Rattle.sheet.proofs.FoundLaws.{slots-found, shown-at, standing-at, there-place}
 
--- ---- a value that a span shows
+-- ---- a value in the page
 
 -- a span reaches no further than the page
 clipped : (w : List ℕ) (a e : ℕ) → slice a (min e (length w)) w ≡ slice a e w
@@ -153,10 +153,8 @@ fields-done : (m : ℕ) (fs : List Field) (vs : Slots) (j : ℕ) → length fs �
 unfolding fieldsFlaw
 fields-done m fs vs j h = rw (drop-of-length-le fs h)
 
-raws-long : (w : List ℕ) (n : ℕ) (rs : List Raw) → length (rawsAt w n rs) ≡ n
-raws-long w zero rs = refl
-raws-long w (suc n) [] = ap suc (raws-long w n [])
-raws-long w (suc n) (r ∷ rs) = ap suc (raws-long w n rs)
+raws-long : (w : List ℕ) (n : ℕ) (rs : List ℕ) → length (rawsAt w n rs) ≡ n
+raws-long w n rs = pairs-long (λ (a b : ℕ). slice a b w) n rs 0
 
 settled-long : (fs : List Field) (rs : List (List ℕ)) → length rs ≡ length fs → length (settledIn fs rs) ≡ length fs
 settled-long [] rs h = refl
@@ -170,25 +168,25 @@ settled-at (f ∷ fs) (r ∷ rs) zero h l = refl
 settled-at (f ∷ fs) (r ∷ rs) (suc j) h l = settled-at fs rs j (omega arith) (omega arith)
 
 -- an element has a slot for each of its fields
-pub slots-long : (w : List ℕ) (k : Kind) (rs : List Raw) → length (told w k rs) ≡ length (fieldsOf k)
+pub slots-long : (w : List ℕ) (k : Kind) (rs : List ℕ) → length (told w k rs) ≡ length (fieldsOf k)
 unfolding told
 slots-long w k rs = settled-long (fieldsOf k) (rawsAt w (length (fieldsOf k)) rs) (raws-long w (length (fieldsOf k)) rs)
 
 -- the slot at a place
-pub slot-at : (w : List ℕ) (k : Kind) (rs : List Raw) (j : ℕ) → j < length (fieldsOf k)
-    → getD (told w k rs) j [] ≡ settle (getD (fieldsOf k) j noField) (value (shownBy w (getD rs j noRaw)))
+pub slot-at : (w : List ℕ) (k : Kind) (rs : List ℕ) (j : ℕ) → j < length (fieldsOf k)
+    → getD (told w k rs) j [] ≡ settle (getD (fieldsOf k) j noField) (value (rawAt w rs j))
 unfolding told
 slot-at w k rs j h =
     settled-at (fieldsOf k) (rawsAt w (length (fieldsOf k)) rs) j h (raws-long w (length (fieldsOf k)) rs)
     ∙ ap (λ (r : List ℕ). settle (getD (fieldsOf k) j noField) (value r)) (shown-at w (length (fieldsOf k)) rs j h)
 
 -- what is left of an element's fields, from the j-th on
-abbrev pub fieldsFrom : List ℕ → Kind → List Raw → ℕ → ℕ → ℕ
+abbrev pub fieldsFrom : List ℕ → Kind → List ℕ → ℕ → ℕ → ℕ
 fieldsFrom w k rs m j = fieldsFlaw m (drop j (fieldsOf k)) (drop j (told w k rs))
 
 -- the fault x is found at the j-th of the element's c fields, which stand in the table from a on
-module _ (w : List ℕ) (k : Kind) (rs : List Raw) (m j a c x : ℕ) (p : a ≡ firstOf k) (q : c ≡ countOf k) (h : j < c)
-    (e : x ≡ fieldFlaw (fieldAt (a + j)) (settle (fieldAt (a + j)) (value (shownBy w (getD rs j noRaw))))) where
+module _ (w : List ℕ) (k : Kind) (rs : List ℕ) (m j a c x : ℕ) (p : a ≡ firstOf k) (q : c ≡ countOf k) (h : j < c)
+    (e : x ≡ fieldFlaw (fieldAt (a + j)) (settle (fieldAt (a + j)) (value (rawAt w rs j)))) where
   in-fields : j < length (fieldsOf k)
   unfolding countOf
   in-fields = omega arith
@@ -213,7 +211,7 @@ module _ (w : List ℕ) (k : Kind) (rs : List Raw) (m j a c x : ℕ) (p : a ≡ 
   turn-fine = fields-fine m (fieldsOf k) (told w k rs) j in-fields in-slots x found-here
 
 -- no field is left
-pub turn-done : (w : List ℕ) (k : Kind) (rs : List Raw) (m j c : ℕ) → c ≡ countOf k → c ≤ j → fieldsFrom w k rs m j ≡ m
+pub turn-done : (w : List ℕ) (k : Kind) (rs : List ℕ) (m j c : ℕ) → c ≡ countOf k → c ≤ j → fieldsFrom w k rs m j ≡ m
 unfolding countOf
 turn-done w k rs m j c q h = fields-done m (fieldsOf k) (told w k rs) j (omega arith)
 
@@ -230,29 +228,29 @@ slot-placed n (f ∷ fs) (v ∷ vs) h = go (same n (f .letters)) (slot-placed n 
     go false e = e
 
 -- the slot of the field with those letters, by its place
-slot-of : (w : List ℕ) (k : Kind) (rs : List Raw) (n : List ℕ) (j : ℕ) → placeIn n (fieldsOf k) ≡ j → j < length (fieldsOf k)
-    → slot n (fieldsOf k) (told w k rs) ≡ settle (getD (fieldsOf k) j noField) (value (shownBy w (getD rs j noRaw)))
+slot-of : (w : List ℕ) (k : Kind) (rs : List ℕ) (n : List ℕ) (j : ℕ) → placeIn n (fieldsOf k) ≡ j → j < length (fieldsOf k)
+    → slot n (fieldsOf k) (told w k rs) ≡ settle (getD (fieldsOf k) j noField) (value (rawAt w rs j))
 slot-of w k rs n j e h = slot-placed n (fieldsOf k) (told w k rs) (slots-long w k rs) ∙ rw e (slot-at w k rs j h)
 
 -- MP's edition, its number and its count; M's package number and its name
-module _ (w : List ℕ) (rs : List Raw) where
-  edition-slot : slot (bytes "v") (fieldsOf MP) (told w MP rs) ≡ value (shownBy w (getD rs 0 noRaw))
+module _ (w : List ℕ) (rs : List ℕ) where
+  edition-slot : slot (bytes "v") (fieldsOf MP) (told w MP rs) ≡ value (rawAt w rs 0)
   unfolding fieldsOf
   edition-slot = slot-of w MP rs (bytes "v") 0 refl (omega arith)
 
-  number-slot : slot (bytes "a") (fieldsOf MP) (told w MP rs) ≡ value (shownBy w (getD rs 4 noRaw))
+  number-slot : slot (bytes "a") (fieldsOf MP) (told w MP rs) ≡ value (rawAt w rs 4)
   unfolding fieldsOf
   number-slot = slot-of w MP rs (bytes "a") 4 refl (omega arith)
 
-  count-slot : slot (bytes "z") (fieldsOf MP) (told w MP rs) ≡ value (shownBy w (getD rs 5 noRaw))
+  count-slot : slot (bytes "z") (fieldsOf MP) (told w MP rs) ≡ value (rawAt w rs 5)
   unfolding fieldsOf
   count-slot = slot-of w MP rs (bytes "z") 5 refl (omega arith)
 
-  package-slot : slot (bytes "p") (fieldsOf M) (told w M rs) ≡ value (shownBy w (getD rs 0 noRaw))
+  package-slot : slot (bytes "p") (fieldsOf M) (told w M rs) ≡ value (rawAt w rs 0)
   unfolding fieldsOf
   package-slot = slot-of w M rs (bytes "p") 0 refl (omega arith)
 
-  name-slot : slot (bytes "a") (fieldsOf M) (told w M rs) ≡ value (shownBy w (getD rs 1 noRaw))
+  name-slot : slot (bytes "a") (fieldsOf M) (told w M rs) ≡ value (rawAt w rs 1)
   unfolding fieldsOf
   name-slot = slot-of w M rs (bytes "a") 1 refl (omega arith)
 
@@ -265,18 +263,27 @@ pub is-medication : (e : ℕ) → e ≡ 6 → kindAt e ≡ M
 unfolding kindAt
 is-medication e q = rw q
 
+-- they have the fields that these rules are of
+pub plan-long : (e : ℕ) → e ≡ 1 → 5 < countOf (kindAt e)
+unfolding countOf fieldsOf
+plan-long e q = subst (λ (k : Kind). 5 < countOf k) (sym (is-plan e q)) (omega arith)
+
+pub medication-long : (e : ℕ) → e ≡ 6 → 1 < countOf (kindAt e)
+unfolding countOf fieldsOf
+medication-long e q = subst (λ (k : Kind). 1 < countOf k) (sym (is-medication e q)) (omega arith)
+
 not-kind : (e n : ℕ) → e < 10 → (e ≡ n → ⊥) → eqb (code (kindAt e)) n ≡ false
 not-kind e n h q = rw (code-back e h) (ne-eqb e n q)
 
 -- ---- MP's edition
 
-module _ (w : List ℕ) (rs : List Raw) (e : ℕ) (h : e < 10) where
+module _ (w : List ℕ) (rs : List ℕ) (e : ℕ) (h : e < 10) where
   -- another element has none
   pub no-edition : (e ≡ 1 → ⊥) → false ≡ mpVersion (kindAt e) (told w (kindAt e) rs)
   no-edition q = rw (not-kind e 1 h q)
 
   -- MP's, and whether it is 027
-  pub edition-by : e ≡ 1 → (v : List ℕ) → v ≡ value (shownBy w (getD rs 0 noRaw)) → (b : Bool) → b ≡ same v (bytes "027") → not b ≡ mpVersion (kindAt e) (told w (kindAt e) rs)
+  pub edition-by : e ≡ 1 → (v : List ℕ) → v ≡ value (rawAt w rs 0) → (b : Bool) → b ≡ same v (bytes "027") → not b ≡ mpVersion (kindAt e) (told w (kindAt e) rs)
   edition-by q v f b g = rw (is-plan e q, edition-slot w rs, ← f, g)
 
 -- ---- MP's number and count
@@ -308,15 +315,15 @@ unbroken-at (f ∷ fs) [] j e h l = absurd (omega arith)
 unbroken-at (f ∷ fs) (v ∷ vs) zero e h l = neither (breaks f v) (broken fs vs) e .0
 unbroken-at (f ∷ fs) (v ∷ vs) (suc j) e h l = unbroken-at fs vs j (neither (breaks f v) (broken fs vs) e .1) (omega arith) (omega arith)
 
-module _ (w : List ℕ) (rs : List Raw) (e : broken (fieldsOf MP) (told w MP rs) ≡ false) where
-  number-one : One (value (shownBy w (getD rs 4 noRaw)))
+module _ (w : List ℕ) (rs : List ℕ) (e : broken (fieldsOf MP) (told w MP rs) ≡ false) where
+  number-one : One (value (rawAt w rs 4))
   unfolding fieldsOf
-  number-one = one-digit (bytes "a") (value (shownBy w (getD rs 4 noRaw)))
+  number-one = one-digit (bytes "a") (value (rawAt w rs 4))
       (rw (slot-at w MP rs 4 (omega arith)) at (unbroken-at (fieldsOf MP) (told w MP rs) 4 e (omega arith) (slots-long w MP rs)))
 
-  count-one : One (value (shownBy w (getD rs 5 noRaw)))
+  count-one : One (value (rawAt w rs 5))
   unfolding fieldsOf
-  count-one = one-digit (bytes "z") (value (shownBy w (getD rs 5 noRaw)))
+  count-one = one-digit (bytes "z") (value (rawAt w rs 5))
       (rw (slot-at w MP rs 5 (omega arith)) at (unbroken-at (fieldsOf MP) (told w MP rs) 5 e (omega arith) (slots-long w MP rs)))
 
 -- the fault of two such values
@@ -337,7 +344,7 @@ by-digits [] (d ∷ x ∷ z) p q = absurd q
 by-digits (c ∷ []) (d ∷ x ∷ z) p q = absurd q
 by-digits (c ∷ x ∷ a) z p q = absurd p
 
-module _ (w : List ℕ) (rs : List Raw) (e : ℕ) (h : e < 10) where
+module _ (w : List ℕ) (rs : List ℕ) (e : ℕ) (h : e < 10) where
   -- another element has none
   pub no-pages : (e ≡ 1 → ⊥) → 9 ≡ pagesFlaw (kindAt e) (told w (kindAt e) rs)
   unfolding pagesFlaw
@@ -345,13 +352,13 @@ module _ (w : List ℕ) (rs : List Raw) (e : ℕ) (h : e < 10) where
 
   -- MP's, by their digits
   pub pages-by : e ≡ 1 → broken (fieldsOf (kindAt e)) (told w (kindAt e) rs) ≡ false
-      → (a z : ℕ) → a ≡ getD (value (shownBy w (getD rs 4 noRaw))) 0 0 → z ≡ getD (value (shownBy w (getD rs 5 noRaw))) 0 0
+      → (a z : ℕ) → a ≡ getD (value (rawAt w rs 4)) 0 0 → z ≡ getD (value (rawAt w rs 5)) 0 0
       → digitsFlaw a z ≡ pagesFlaw (kindAt e) (told w (kindAt e) rs)
   unfolding pagesFlaw
   pages-by q b a z f g =
       let k = is-plan e q in
       let u : broken (fieldsOf MP) (told w MP rs) ≡ false = rw k at b in
-      rw (k, number-slot w rs, count-slot w rs, f, g) (by-digits (value (shownBy w (getD rs 4 noRaw))) (value (shownBy w (getD rs 5 noRaw))) (number-one w rs u) (count-one w rs u))
+      rw (k, number-slot w rs, count-slot w rs, f, g) (by-digits (value (rawAt w rs 4)) (value (rawAt w rs 5)) (number-one w rs u) (count-one w rs u))
 
 -- ---- excluded pairs
 
@@ -407,38 +414,38 @@ module _ (e i n : ℕ) (h : e < 10) (c : n ≡ length (excluded (kindAt e))) (l 
       (below-at 10 (λ (m : ℕ). every (λ (x : ℕ). ltb x (countOf (kindAt m))) (othersOf (kindAt m))) refl e h) others-long)
 
   -- what is left of the pairs, from the i-th on
-  abbrev pairsFrom : ℕ → List Raw → Bool
-  pairsFrom j rs = clashThere (drop j (onesOf (kindAt e))) (drop j (othersOf (kindAt e))) (thereAt (length (fieldsOf (kindAt e))) rs)
+  abbrev pairsFrom : ℕ → List ℕ → ℕ → Bool
+  pairsFrom j t base = clashThere (drop j (onesOf (kindAt e))) (drop j (othersOf (kindAt e))) (standing (length (fieldsOf (kindAt e))) t base)
 
-  module _ (rs : List Raw) (a b : ℕ) (p : a ≡ getD (onesOf (kindAt e)) i 0) (q : b ≡ getD (othersOf (kindAt e)) i 0) where
-    one-there : getD (thereAt (length (fieldsOf (kindAt e))) rs) (getD (onesOf (kindAt e)) i 0) false ≡ not (eqb (getD rs a noRaw .at) 0)
+  module _ (t : List ℕ) (base a b : ℕ) (p : a ≡ getD (onesOf (kindAt e)) i 0) (q : b ≡ getD (othersOf (kindAt e)) i 0) where
+    one-there : getD (standing (length (fieldsOf (kindAt e))) t base) (getD (onesOf (kindAt e)) i 0) false ≡ not (eqb (getD t (base + 2 * a) 0) 0)
     unfolding countOf
-    one-there = there-at (length (fieldsOf (kindAt e))) rs (getD (onesOf (kindAt e)) i 0) one-within ∙ rw p
+    one-there = standing-at (length (fieldsOf (kindAt e))) t base (getD (onesOf (kindAt e)) i 0) one-within ∙ rw p
 
-    other-there : getD (thereAt (length (fieldsOf (kindAt e))) rs) (getD (othersOf (kindAt e)) i 0) false ≡ not (eqb (getD rs b noRaw .at) 0)
+    other-there : getD (standing (length (fieldsOf (kindAt e))) t base) (getD (othersOf (kindAt e)) i 0) false ≡ not (eqb (getD t (base + 2 * b) 0) 0)
     unfolding countOf
-    other-there = there-at (length (fieldsOf (kindAt e))) rs (getD (othersOf (kindAt e)) i 0) other-within ∙ rw q
+    other-there = standing-at (length (fieldsOf (kindAt e))) t base (getD (othersOf (kindAt e)) i 0) other-within ∙ rw q
 
     -- the one is not there
-    pub clash-no-one : getD rs a noRaw .at ≡ 0 → pairsFrom i rs ≡ pairsFrom (i + 1) rs
-    clash-no-one z = pair-no-one (onesOf (kindAt e)) (othersOf (kindAt e)) (thereAt (length (fieldsOf (kindAt e))) rs) i ones-long others-long (one-there ∙ ap not (eq-eqb (getD rs a noRaw .at) 0 z))
+    pub clash-no-one : getD t (base + 2 * a) 0 ≡ 0 → pairsFrom i t base ≡ pairsFrom (i + 1) t base
+    clash-no-one z = pair-no-one (onesOf (kindAt e)) (othersOf (kindAt e)) (standing (length (fieldsOf (kindAt e))) t base) i ones-long others-long (one-there ∙ ap not (eq-eqb (getD t (base + 2 * a) 0) 0 z))
 
     -- the other is not there
-    pub clash-no-other : getD rs b noRaw .at ≡ 0 → pairsFrom i rs ≡ pairsFrom (i + 1) rs
-    clash-no-other z = pair-no-other (onesOf (kindAt e)) (othersOf (kindAt e)) (thereAt (length (fieldsOf (kindAt e))) rs) i ones-long others-long (other-there ∙ ap not (eq-eqb (getD rs b noRaw .at) 0 z))
+    pub clash-no-other : getD t (base + 2 * b) 0 ≡ 0 → pairsFrom i t base ≡ pairsFrom (i + 1) t base
+    clash-no-other z = pair-no-other (onesOf (kindAt e)) (othersOf (kindAt e)) (standing (length (fieldsOf (kindAt e))) t base) i ones-long others-long (other-there ∙ ap not (eq-eqb (getD t (base + 2 * b) 0) 0 z))
 
     -- both are there
-    pub clash-both : (getD rs a noRaw .at ≡ 0 → ⊥) → (getD rs b noRaw .at ≡ 0 → ⊥) → pairsFrom i rs ≡ true
-    clash-both y z = pair-both (onesOf (kindAt e)) (othersOf (kindAt e)) (thereAt (length (fieldsOf (kindAt e))) rs) i ones-long others-long
-        (one-there ∙ ap not (ne-eqb (getD rs a noRaw .at) 0 y)) (other-there ∙ ap not (ne-eqb (getD rs b noRaw .at) 0 z))
+    pub clash-both : (getD t (base + 2 * a) 0 ≡ 0 → ⊥) → (getD t (base + 2 * b) 0 ≡ 0 → ⊥) → pairsFrom i t base ≡ true
+    clash-both y z = pair-both (onesOf (kindAt e)) (othersOf (kindAt e)) (standing (length (fieldsOf (kindAt e))) t base) i ones-long others-long
+        (one-there ∙ ap not (ne-eqb (getD t (base + 2 * a) 0) 0 y)) (other-there ∙ ap not (ne-eqb (getD t (base + 2 * b) 0) 0 z))
 
 -- no pair is left
-pub clash-none : (e i n : ℕ) (rs : List Raw) → n ≡ length (excluded (kindAt e)) → n ≤ i
-    → clashThere (drop i (onesOf (kindAt e))) (drop i (othersOf (kindAt e))) (thereAt (length (fieldsOf (kindAt e))) rs) ≡ false
+pub clash-none : (e i n : ℕ) (t : List ℕ) (base : ℕ) → n ≡ length (excluded (kindAt e)) → n ≤ i
+    → clashThere (drop i (onesOf (kindAt e))) (drop i (othersOf (kindAt e))) (standing (length (fieldsOf (kindAt e))) t base) ≡ false
 unfolding onesOf
-clash-none e i n rs c l =
+clash-none e i n t base c l =
     let m = length-map (excluded (kindAt e)) (λ (p : Pair). placeIn (p .0) (fieldsOf (kindAt e))) in
-    pairs-done (onesOf (kindAt e)) (othersOf (kindAt e)) (thereAt (length (fieldsOf (kindAt e))) rs) i (omega arith)
+    pairs-done (onesOf (kindAt e)) (othersOf (kindAt e)) (standing (length (fieldsOf (kindAt e))) t base) i (omega arith)
 
 -- both letters of a pair are letters of the element
 abbrev paired : List Field → Pair → Bool
@@ -469,7 +476,7 @@ clash-places fs l (p ∷ ps) e =
       clash-places fs l ps y,
     )
 
--- ---- what the spans tell of the attributes
+-- ---- what the raw values tell of the attributes
 
 -- no value breaks its field where the fields' fault is not 7
 pub unbroken : (k : Kind) (vs : Slots) (own : ℕ) → own ≡ fieldsFlaw 9 (fieldsOf k) vs → (own ≡ 7 → ⊥) → broken (fieldsOf k) vs ≡ false
@@ -480,14 +487,14 @@ unbroken k vs own p ne = go (broken (fieldsOf k) vs) (λ q. ne (p ∙ q))
     go true f = absurd (f refl)
     go false f = refl
 
-module _ {w : List ℕ} {k : Kind} {rs : List Raw} {l : List Attr} (T : Tells w k rs l) where
+module _ {w : List ℕ} {k : Kind} {rs : List ℕ} {l : List Attr} (T : Tells w k rs l) where
   -- the element's slots
   pub told-slots : told w k rs ≡ slotsOf (fieldsOf k) l
   unfolding told
   told-slots = ap (settledIn (fieldsOf k)) (T .raws) ∙ sym (slots-found (fieldsOf k) l)
 
   -- its excluded pairs
-  pub told-clash : clashAt k rs ≡ clash (excluded k) (names l)
+  pub told-clash : clashAt k rs 0 ≡ clash (excluded k) (names l)
   unfolding clashAt onesOf othersOf
   told-clash = rw (T .there) (clash-places (fieldsOf k) l (excluded k) (all-paired k))
 
@@ -505,7 +512,7 @@ module _ {w : List ℕ} {k : Kind} {rs : List Raw} {l : List Attr} (T : Tells w 
   flaw-six e = rw (← told-slots, ← e)
 
   module _ (e : false ≡ mpVersion k vs) (own : ℕ) (p : own ≡ fieldsFlaw 9 (fieldsOf k) vs) where
-    least-is : (n : ℕ) → n ≡ byTests (broken (fieldsOf k) vs || mpOver k vs) (missing (fieldsOf k) vs || clashAt k rs || mpHalf k vs) 9 → Least n
+    least-is : (n : ℕ) → n ≡ byTests (broken (fieldsOf k) vs || mpOver k vs) (missing (fieldsOf k) vs || clashAt k rs 0 || mpHalf k vs) 9 → Least n
     unfolding flaw
     least-is n q = q ∙ rw (← told-slots, ← e, told-clash)
 
@@ -514,7 +521,7 @@ module _ {w : List ℕ} {k : Kind} {rs : List Raw} {l : List Attr} (T : Tells w 
     unfolding fieldsFlaw
     flaw-seven q = least-is 7 (go (broken (fieldsOf k) vs) (missing (fieldsOf k) vs) (sym p ∙ q))
       where
-        go : (a b : Bool) → byTests a b 9 ≡ 7 → 7 ≡ byTests (a || mpOver k vs) (b || clashAt k rs || mpHalf k vs) 9
+        go : (a b : Bool) → byTests a b 9 ≡ 7 → 7 ≡ byTests (a || mpOver k vs) (b || clashAt k rs 0 || mpHalf k vs) 9
         go true b e = refl
         go false true e = absurd (omega arith)
         go false false e = absurd (omega arith)
@@ -527,7 +534,7 @@ module _ {w : List ℕ} {k : Kind} {rs : List Raw} {l : List Attr} (T : Tells w 
         -- a above z, or one without the other
         pub flaw-pages : pages < 9 → Least pages
         unfolding pagesFlaw
-        flaw-pages h = least-is pages (q ∙ rw whole (go (mpOver k vs) (mpHalf k vs) (missing (fieldsOf k) vs) (clashAt k rs) (subst (λ (n : ℕ). n < 9) q h)))
+        flaw-pages h = least-is pages (q ∙ rw whole (go (mpOver k vs) (mpHalf k vs) (missing (fieldsOf k) vs) (clashAt k rs 0) (subst (λ (n : ℕ). n < 9) q h)))
           where
             go : (o h m c : Bool) → byTests o h 9 < 9 → byTests o h 9 ≡ byTests o (m || c || h) 9
             go true h m c l = refl
@@ -540,11 +547,11 @@ module _ {w : List ℕ} {k : Kind} {rs : List Raw} {l : List Attr} (T : Tells w 
             go false false m c l = absurd (omega arith)
 
         module _ (nine : 9 ≤ pages) where
-          alone : (n : ℕ) → n ≡ byTests false (missing (fieldsOf k) vs || clashAt k rs || false) 9 → Least n
+          alone : (n : ℕ) → n ≡ byTests false (missing (fieldsOf k) vs || clashAt k rs 0 || false) 9 → Least n
           unfolding pagesFlaw
           alone n f = least-is n (f ∙ rw whole (go (mpOver k vs) (mpHalf k vs) (subst (λ (n : ℕ). 9 ≤ n) q nine)))
             where
-              go : (o h : Bool) → 9 ≤ byTests o h 9 → byTests false (missing (fieldsOf k) vs || clashAt k rs || false) 9 ≡ byTests o (missing (fieldsOf k) vs || clashAt k rs || h) 9
+              go : (o h : Bool) → 9 ≤ byTests o h 9 → byTests false (missing (fieldsOf k) vs || clashAt k rs 0 || false) 9 ≡ byTests o (missing (fieldsOf k) vs || clashAt k rs 0 || h) 9
               go true h l = absurd (omega arith)
               go false true l = absurd (omega arith)
               go false false l = refl
@@ -554,12 +561,12 @@ module _ {w : List ℕ} {k : Kind} {rs : List Raw} {l : List Attr} (T : Tells w 
           unfolding fieldsFlaw
           flaw-eight f = alone 8 (go (missing (fieldsOf k) vs) (ap (λ (b : Bool). byTests b (missing (fieldsOf k) vs) 9) (sym whole) ∙ sym p ∙ f))
             where
-              go : (m : Bool) → byTests false m 9 ≡ 8 → 8 ≡ byTests false (m || clashAt k rs || false) 9
+              go : (m : Bool) → byTests false m 9 ≡ 8 → 8 ≡ byTests false (m || clashAt k rs 0 || false) 9
               go true e = refl
               go false e = absurd (omega arith)
 
           -- an excluded pair
-          pub flaw-clash : true ≡ clashAt k rs → Least 8
+          pub flaw-clash : true ≡ clashAt k rs 0 → Least 8
           flaw-clash f = alone 8 (rw (← f) (go (missing (fieldsOf k) vs)))
             where
               go : (m : Bool) → 8 ≡ byTests false (m || true || false) 9
@@ -567,7 +574,7 @@ module _ {w : List ℕ} {k : Kind} {rs : List Raw} {l : List Attr} (T : Tells w 
               go false = refl
 
           -- none
-          pub flaw-none : (own ≡ 8 → ⊥) → false ≡ clashAt k rs → Least 9
+          pub flaw-none : (own ≡ 8 → ⊥) → false ≡ clashAt k rs 0 → Least 9
           unfolding fieldsFlaw
           flaw-none f g = alone 9 (rw (← g) (go (missing (fieldsOf k) vs) (λ z. f (p ∙ rw whole z))))
             where
@@ -577,13 +584,13 @@ module _ {w : List ℕ} {k : Kind} {rs : List Raw} {l : List Attr} (T : Tells w 
 
 -- ---- an M that needs a W
 
-module _ {w : List ℕ} {e : ℕ} {rs : List Raw} {l : List Attr} (T : Tells w (kindAt e) rs l) where
+module _ {w : List ℕ} {e : ℕ} {rs : List ℕ} {l : List Attr} (T : Tells w (kindAt e) rs l) where
   -- another element
   pub no-need : e < 10 → (e ≡ 6 → ⊥) → false ≡ needsW (kindAt e) (slotsOf (fieldsOf (kindAt e)) l)
   unfolding needsW
   no-need h q = rw (not-kind e 6 h q)
 
   -- an M, by its package number and its name
-  pub need-by : e ≡ 6 → isEmpty (value (shownBy w (getD rs 0 noRaw))) && isEmpty (value (shownBy w (getD rs 1 noRaw))) ≡ needsW (kindAt e) (slotsOf (fieldsOf (kindAt e)) l)
+  pub need-by : e ≡ 6 → isEmpty (value (rawAt w rs 0)) && isEmpty (value (rawAt w rs 1)) ≡ needsW (kindAt e) (slotsOf (fieldsOf (kindAt e)) l)
   unfolding needsW
   need-by q = rw (← told-slots T, is-medication e q, package-slot w rs, name-slot w rs)

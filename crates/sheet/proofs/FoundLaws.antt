@@ -1,28 +1,28 @@
 -- FoundLaws: the attributes of a tag one after another, by the fields of its element, and the slots that their raw bytes give.
 -- Assumes nothing.
-use mathlib.Core.Path.{_≡_, refl, ap, sym, _∙_}
+use mathlib.Core.Path.{_≡_, refl, ap, sym, _∙_, subst}
 use mathlib.Core.Bool.{Bool, true, false, not, _&&_, _||_}
 use mathlib.Core.List.{List, [], _∷_, _++_, append-nil, append-assoc}
-use Prim.Native.Nat.{ℕ, zero, suc, _+_, _-_, _≤_, _<_}
-use native.Mathlib.Nat.{sub-zero, zero-sub, suc-sub-suc}
+use Prim.Native.Nat.{ℕ, zero, suc, _+_, _*_, _≤_, _<_}
 use native.Mathlib.Omega.{arith}
-use lib.Dec.{eqb, leb}
-use lib.ListN.{length, getD, set, take, drop, replicate, length-set}
-use lib.Seq.{slice, slice-empty, take-nil}
-use borrow.Author.Tests.{ne-eqb, eq-eqb, lt-ltb, le-ltb, leb-true}
+use lib.Dec.{eqb}
+use lib.ListN.{length, getD, set}
+use lib.Seq.{slice, slice-empty}
+use borrow.Author.Tests.{ne-eqb, eq-eqb, lt-ltb, le-ltb}
 use Rattle.paper.specs.Lists.{if, same, elem, twice, every}
 use Rattle.paper.specs.Grammar.{Attr}
 use Rattle.paper.specs.Fields.{Kind, Field, fieldsOf}
 use Rattle.paper.specs.Values.{value}
 use Rattle.paper.specs.Judging.{names, found, slotsOf, lettersOf}
-use Rattle.paper.proofs.Small.{no, neither, and-false, same-comm, same-self, same-eq, below-at}
+use Rattle.paper.proofs.Small.{no, neither, and-false, same-comm, same-self, same-eq}
 use Rattle.paper.proofs.Element.{distinct}
 use Rattle.markup.specs.Walk.{Inside, more, stops, insideAt}
-use Rattle.fields.specs.Places.{kindAt, noField, placeIn, countOf}
+use Rattle.fields.specs.Places.{noField, placeIn, countOf}
 use Rattle.fields.proofs.TableLaws.{known, found-letters}
-use Rattle.sheet.specs.declared.found.Raw.{Raw}
+use Rattle.room.specs.Paired.{pairsAt}
+use Rattle.room.proofs.PairLaws.{put, put-long, pairs-at, pairs-put, each-put, each-none}
 use Rattle.sheet.specs.Fold.{strange}
-use Rattle.sheet.specs.Found.{rawOf, rawsIn, settledIn, thereIn, noRaw, shownBy, rawsAt, thereAt, Lie, Tells}
+use Rattle.sheet.specs.Found.{rawOf, rawsIn, settledIn, thereIn, rawAt, rawsAt, standing, Tells}
 
 -- ---- the slots of raw bytes
 
@@ -111,54 +111,30 @@ there-more (f ∷ fs) l n r d =
     go true q x ih = let z = same-eq n (f .letters) q in rw (← z, there-own l n r, there-skip fs l n r (rw (z) x))
     go false q x ih = rw (there-other l n r (f .letters) q, ih)
 
--- ---- spans
+-- ---- raw values
 
--- what the span at a place shows, and whether it is there
-pub shown-at : (w : List ℕ) (n : ℕ) (rs : List Raw) (j : ℕ) → j < n → getD (rawsAt w n rs) j [] ≡ shownBy w (getD rs j noRaw)
-shown-at w zero rs j h = absurd (omega arith)
-shown-at w (suc n) [] zero h = sym (slice-empty 0 w)
-shown-at w (suc n) [] (suc j) h = shown-at w n [] j (omega arith)
-shown-at w (suc n) (r ∷ rs) zero h = refl
-shown-at w (suc n) (r ∷ rs) (suc j) h = shown-at w n rs j (omega arith)
+-- those of a field
+pub shown-at : (w : List ℕ) (n : ℕ) (t : List ℕ) (j : ℕ) → j < n → getD (rawsAt w n t) j [] ≡ rawAt w t j
+shown-at w n t j h = let z : 0 + 2 * j ≡ 2 * j = omega arith in rw z at (pairs-at (λ (a b : ℕ). slice a b w) n t 0 j [] h)
 
-pub there-at : (n : ℕ) (rs : List Raw) (j : ℕ) → j < n → getD (thereAt n rs) j false ≡ not (eqb (getD rs j noRaw .at) 0)
-there-at zero rs j h = absurd (omega arith)
-there-at (suc n) [] zero h = refl
-there-at (suc n) [] (suc j) h = there-at n [] j (omega arith)
-there-at (suc n) (r ∷ rs) zero h = refl
-there-at (suc n) (r ∷ rs) (suc j) h = there-at n rs j (omega arith)
+-- whether it stands in the tag
+pub standing-at : (n : ℕ) (t : List ℕ) (i j : ℕ) → j < n → getD (standing n t i) j false ≡ not (eqb (getD t (i + 2 * j) 0) 0)
+standing-at n t i j h = pairs-at (λ (a b : ℕ). not (eqb a 0)) n t i j false h
 
--- a span is put at a place
-raws-put : (w : List ℕ) (n : ℕ) (rs : List Raw) (j : ℕ) (r : Raw) → j < length rs → rawsAt w n (set rs j r) ≡ set (rawsAt w n rs) j (shownBy w r)
-raws-put w zero rs j r h = refl
-raws-put w (suc n) [] j r h = absurd (omega arith)
-raws-put w (suc n) (x ∷ rs) zero r h = refl
-raws-put w (suc n) (x ∷ rs) (suc j) r h = rw (raws-put w n rs j r (omega arith))
+pub standing-put : (t : List ℕ) (a b n i j s : ℕ) → j < n → s ≡ i + 2 * j → i + 2 * n ≤ length t → 0 < a → standing n (put t s a b) i ≡ set (standing n t i) j true
+standing-put t a b n i j s h e l p =
+    pairs-put (λ (x y : ℕ). not (eqb x 0)) t a b n i j s h e l ∙ ap (λ (c : Bool). set (standing n t i) j (not c)) (ne-eqb a 0 (λ q. omega arith))
 
-there-put : (n : ℕ) (rs : List Raw) (j : ℕ) (r : Raw) → j < length rs → (r .at ≡ 0 → ⊥) → thereAt n (set rs j r) ≡ set (thereAt n rs) j true
-there-put zero rs j r h e = refl
-there-put (suc n) [] j r h e = absurd (omega arith)
-there-put (suc n) (x ∷ rs) zero r h e = rw (ne-eqb (r .at) 0 e)
-there-put (suc n) (x ∷ rs) (suc j) r h e = rw (there-put n rs j r (omega arith) e)
+-- a tag without attributes
+raws-none : (w : List ℕ) (fs : List Field) (t : List ℕ) (i : ℕ) → ((j : ℕ) → i ≤ j → j < i + 2 * length fs → getD t j 0 ≡ 0)
+    → pairsAt (λ (a b : ℕ). slice a b w) (length fs) t i ≡ rawsIn fs []
+raws-none w [] t i h = refl
+raws-none w (f ∷ fs) t i h =
+    rw (h i (omega arith) (omega arith), h (i + 1) (omega arith) (omega arith), slice-empty 0 w, raws-none w fs t (i + 2) (λ j a b. h j (omega arith) (omega arith)))
 
-lie-put : (w : List ℕ) (rs : List Raw) (j : ℕ) (r : Raw) → Lie w rs → r .at ≤ r .end → r .end ≤ length w → Lie w (set rs j r)
-lie-put w [] j r h a b = tt
-lie-put w (x ∷ rs) zero r h a b = (a, b, h .2)
-lie-put w (x ∷ rs) (suc j) r h a b = (h .0, h .1, lie-put w rs j r (h .2) a b)
-
-pub lie-none : (w : List ℕ) (n : ℕ) → Lie w (replicate n noRaw)
-lie-none w zero = tt
-lie-none w (suc n) = (omega arith, omega arith, lie-none w n)
-
-raws-none : (w : List ℕ) (fs : List Field) (n : ℕ) → rawsAt w (length fs) (replicate n noRaw) ≡ rawsIn fs []
-raws-none w [] n = refl
-raws-none w (f ∷ fs) zero = rw (raws-none w fs zero)
-raws-none w (f ∷ fs) (suc n) = rw (slice-empty 0 w, raws-none w fs n)
-
-there-none : (fs : List Field) (n : ℕ) → thereAt (length fs) (replicate n noRaw) ≡ thereIn fs []
-there-none [] n = refl
-there-none (f ∷ fs) zero = rw (there-none fs zero)
-there-none (f ∷ fs) (suc n) = rw (there-none fs n)
+pub standing-none : (fs : List Field) (t : List ℕ) (i : ℕ) → ((j : ℕ) → i ≤ j → j < i + 2 * length fs → getD t j 0 ≡ 0) → standing (length fs) t i ≡ thereIn fs []
+standing-none [] t i h = refl
+standing-none (f ∷ fs) t i h = rw (h i (omega arith) (omega arith), standing-none fs t (i + 2) (λ j a b. h j (omega arith) (omega arith)))
 
 -- ---- a field that stands in the tag
 
@@ -172,10 +148,9 @@ there-in (f ∷ fs) l (suc j) h = there-in fs l j (omega arith)
 pub there-place : (fs : List Field) (l : List Attr) (n : List ℕ) → placeIn n fs < length fs → getD (thereIn fs l) (placeIn n fs) false ≡ elem n (names l)
 there-place fs l n h = there-in fs l (placeIn n fs) h ∙ ap (λ (m : List ℕ). elem m (names l)) (sym (same-eq n (getD fs (placeIn n fs) noField .letters) (found-letters n fs h)))
 
--- an element has at most 14 fields
-pub few-fields : (e : ℕ) → e < 10 → countOf (kindAt e) ≤ 14
-unfolding kindAt countOf fieldsOf
-few-fields e h = leb-true (countOf (kindAt e)) 14 (below-at 10 (λ (n : ℕ). leb (countOf (kindAt n)) 14) refl e h)
+pub count-is : (k : Kind) → countOf k ≡ length (fieldsOf k)
+unfolding countOf
+count-is k = refl
 
 -- ---- strange attributes
 
@@ -211,34 +186,39 @@ once-more (x ∷ l) n d e =
 
 -- ---- along the attributes of a tag
 
--- behind some attributes of a tag, up to place i of the page: they are known, none stands twice, and the spans tell them
-pub record Held (w : List ℕ) (k : Kind) (at i : ℕ) (rs : List Raw) : Type 0 where
+-- behind some attributes of a tag, up to place i of the page: they are known, none stands twice, and the raw values tell them
+pub record Held (w : List ℕ) (k : Kind) (at i : ℕ) (t : List ℕ) : Type 0 where
   pub within : i ≤ length w
-  pub wide : length rs ≡ 16
+  pub wide : 2 * length (fieldsOf k) ≤ length t
   pub done : List Attr
   pub whole : insideAt w at .attrs ≡ done ++ insideAt w i .attrs
   pub closing : insideAt w at .shut ≡ insideAt w i .shut
   pub fitting : every (fits k) (names done) ≡ true
   pub once : twice (names done) ≡ false
-  pub tells : Tells w k rs done
+  pub tells : Tells w k t done
 
--- before the first
-pub at-start : (w : List ℕ) (k : Kind) (at : ℕ) → at ≤ length w → Held w k at at (replicate 16 noRaw)
-at-start w k at h = record {
-  within = h;
-  wide = refl;
-  done = [];
-  whole = refl;
-  closing = refl;
-  fitting = refl;
-  once = refl;
-  tells = record { lie = lie-none w 16; raws = raws-none w (fieldsOf k) 16; there = there-none (fieldsOf k) 16 };
-}
+-- before the first, where all numbers are 0
+pub at-start : (w : List ℕ) (k : Kind) (at : ℕ) (t : List ℕ) → at ≤ length w → 2 * length (fieldsOf k) ≤ length t → ((j : ℕ) → j < 2 * length (fieldsOf k) → getD t j 0 ≡ 0) → Held w k at at t
+at-start w k at t h l e =
+    let z : (j : ℕ) → 0 ≤ j → j < 0 + 2 * length (fieldsOf k) → getD t j 0 ≡ 0 = λ j a b. e j (omega arith) in record {
+      within = h;
+      wide = l;
+      done = [];
+      whole = refl;
+      closing = refl;
+      fitting = refl;
+      once = refl;
+      tells = record {
+        lie = each-none (λ (a b : ℕ). (a ≤ b) × (b ≤ length w)) (length (fieldsOf k)) t 0 (omega arith, omega arith) z;
+        raws = raws-none w (fieldsOf k) t 0 z;
+        there = standing-none (fieldsOf k) t 0 z;
+      };
+    }
 
-module _ {w : List ℕ} {k : Kind} {at i : ℕ} {rs : List Raw} (H : Held w k at i rs) where
+module _ {w : List ℕ} {k : Kind} {at i : ℕ} {t : List ℕ} (H : Held w k at i t) where
   -- the tag's end
   pub at-stop : (c : Bool) → insideAt w i ≡ stops c
-      → (false ≡ strange k (names (insideAt w at .attrs))) × (_≡_ {A = Bool} false false → (c ≡ insideAt w at .shut) × Tells w k rs (insideAt w at .attrs))
+      → (false ≡ strange k (names (insideAt w at .attrs))) × (_≡_ {A = Bool} false false → (c ≡ insideAt w at .shut) × Tells w k t (insideAt w at .attrs))
   unfolding strange
   at-stop c e =
       let all : insideAt w at .attrs ≡ H .done = H .whole ∙ rw e (append-nil (H .done)) in
@@ -262,41 +242,46 @@ module _ {w : List ℕ} {k : Kind} {at i : ℕ} {rs : List Raw} (H : Held w k at
         unfolding countOf
         inside = omega arith
 
-        stands : elem n (names (H .done)) ≡ not (eqb (getD rs j noRaw .at) 0)
+        place : 0 + 2 * placeIn n (fieldsOf k) ≡ 2 * j
+        place = omega arith
+
+        stands : elem n (names (H .done)) ≡ not (eqb (getD t (2 * j) 0) 0)
         stands =
             sym (there-place (fieldsOf k) (H .done) n inside)
             ∙ ap (λ (l : List Bool). getD l (placeIn n (fieldsOf k)) false) (sym (H .tells .there))
-            ∙ there-at (length (fieldsOf k)) rs (placeIn n (fieldsOf k)) inside
-            ∙ rw p
+            ∙ standing-at (length (fieldsOf k)) t 0 (placeIn n (fieldsOf k)) inside
+            ∙ ap (λ (m : ℕ). not (eqb (getD t m 0) 0)) place
 
         -- an attribute that stands twice
-        pub at-twice : (getD rs j noRaw .at ≡ 0 → ⊥) → true ≡ strange k (names (insideAt w at .attrs))
+        pub at-twice : (getD t (2 * j) 0 ≡ 0 → ⊥) → true ≡ strange k (names (insideAt w at .attrs))
         unfolding strange
         at-twice z =
-            let x : elem n (names (H .done)) ≡ true = stands ∙ ap not (ne-eqb (getD rs j noRaw .at) 0 z) in
+            let x : elem n (names (H .done)) ≡ true = stands ∙ ap not (ne-eqb (getD t (2 * j) 0) 0 z) in
             let y = twice-seam (names (H .done)) (names (I .attrs)) n x in
             rw (all-names, y) (sym (or-true (not (every (fits k) (names (H .done) ++ n ∷ names (I .attrs))))))
 
         -- an attribute more, whose raw bytes lie from a up to b
-        pub at-next : getD rs j noRaw .at ≡ 0 → (a b : ℕ) → r ≡ slice a b w → I ≡ insideAt w (b + 1) → j < 16 → 0 < a → a ≤ b → b < length w
-            → Held w k at (b + 1) (set rs j (record { at = a; end = b }))
-        at-next z a b v g few up le lt =
-            let x : elem n (names (H .done)) ≡ false = stands ∙ ap not (eq-eqb (getD rs j noRaw .at) 0 z) in
+        pub at-next : getD t (2 * j) 0 ≡ 0 → (a b : ℕ) → r ≡ slice a b w → I ≡ insideAt w (b + 1) → 0 < a → a ≤ b → b < length w
+            → Held w k at (b + 1) (put t (2 * j) a b)
+        at-next z a b v g up le lt =
+            let x : elem n (names (H .done)) ≡ false = stands ∙ ap not (eq-eqb (getD t (2 * j) 0) 0 z) in
             let y : fits k n ≡ true = known n (fieldsOf k) ∙ lt-ltb (placeIn n (fieldsOf k)) (length (fieldsOf k)) inside in
-            let l : j < length rs = omega (arith, H .wide) in
-            let s : Raw = record { at = a; end = b } in
-            let ne : a ≡ 0 → ⊥ = λ f. omega arith in
+            let l : j < length (fieldsOf k) = subst (λ (m : ℕ). m < length (fieldsOf k)) (sym p) inside in
+            let first : 2 * j ≡ 0 + 2 * j = omega arith in
+            let long : 0 + 2 * length (fieldsOf k) ≤ length t = omega (arith, H .wide) in
             record {
               within = omega arith;
-              wide = length-set rs j s ∙ H .wide;
+              wide = rw (put-long t (2 * j) a b) (H .wide);
               done = H .done ++ (attr n r ∷ []);
               whole = H .whole ∙ rw (e, g) (sym (append-assoc (H .done) (attr n r ∷ []) (insideAt w (b + 1) .attrs)));
               closing = H .closing ∙ ap (λ (x : Inside). x .shut) e ∙ ap (λ (x : Inside). x .shut) g;
               fitting = rw (names-append (H .done) (attr n r ∷ []), every-seam (fits k) (names (H .done)) (n ∷ []), H .fitting, y);
               once = rw (names-append (H .done) (attr n r ∷ [])) (once-more (names (H .done)) n (H .once) x);
               tells = record {
-                lie = lie-put w rs j s (H .tells .lie) le (omega arith);
-                raws = raws-put w (length (fieldsOf k)) rs j s l ∙ rw (H .tells .raws, ← v, p) (sym (raws-more (fieldsOf k) (H .done) n r (distinct k) x));
-                there = there-put (length (fieldsOf k)) rs j s l ne ∙ rw (H .tells .there, p) (sym (there-more (fieldsOf k) (H .done) n r (distinct k)));
+                lie = each-put (λ (x y : ℕ). (x ≤ y) × (y ≤ length w)) t a b (length (fieldsOf k)) 0 j (2 * j) l first long (le, omega arith) (H .tells .lie);
+                raws = pairs-put (λ (x y : ℕ). slice x y w) t a b (length (fieldsOf k)) 0 j (2 * j) l first long
+                    ∙ rw (H .tells .raws, ← v, p) (sym (raws-more (fieldsOf k) (H .done) n r (distinct k) x));
+                there = standing-put t a b (length (fieldsOf k)) 0 j (2 * j) l first long up
+                    ∙ rw (H .tells .there, p) (sym (there-more (fieldsOf k) (H .done) n r (distinct k)));
               };
             }

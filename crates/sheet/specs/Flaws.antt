@@ -1,4 +1,4 @@
--- Flaws: the words in which the functions tell the faults of an element's own tag by the spans of its attributes. What `flaw_of` itself promises
+-- Flaws: the words in which the functions tell the faults of an element's own tag by the raw values of its attributes. What `flaw_of` itself promises
 -- is Fold's `flaw`.
 -- Assumes nothing.
 use mathlib.Core.Bool.{Bool, false, _&&_, _||_}
@@ -12,8 +12,7 @@ use Rattle.paper.specs.Rules.{isZero}
 use Rattle.paper.specs.Plan.{Slots}
 use Rattle.paper.specs.Judging.{broken, missing, mpOver, mpHalf}
 use Rattle.fields.specs.Places.{onesOf, othersOf}
-use Rattle.sheet.specs.declared.found.Raw.{Raw}
-use Rattle.sheet.specs.Found.{thereAt}
+use Rattle.sheet.specs.Found.{standing}
 
 -- the value that counts under a rule
 abbrev pub settleBy : Rule → List ℕ → List ℕ
@@ -37,6 +36,6 @@ clashThere [] others ts = false
 clashThere (a ∷ ones) [] ts = false
 clashThere (a ∷ ones) (b ∷ others) ts = (getD ts a false && getD ts b false) || clashThere ones others ts
 
--- two excluded fields of an element are there
-unfoldable pub clashAt : Kind → List Raw → Bool
-clashAt k rs = clashThere (onesOf k) (othersOf k) (thereAt (length (fieldsOf k)) rs)
+-- two excluded fields of an element are there, by numbers from place i on
+unfoldable pub clashAt : Kind → List ℕ → ℕ → Bool
+clashAt k t i = clashThere (onesOf k) (othersOf k) (standing (length (fieldsOf k)) t i)

@@ -1,11 +1,11 @@
 -- Found: the attributes of one start tag by the fields of its element. By the theorem `slots-found` of proofs/FoundLaws they give paper's slots.
 -- Assumes nothing.
-use mathlib.Core.Bool.{Bool, false, not}
+use mathlib.Core.Bool.{Bool, not}
 use mathlib.Core.List.{List, [], _∷_}
 use mathlib.Core.Path.{_≡_}
-use Prim.Native.Nat.{ℕ, zero, suc, _≤_}
+use Prim.Native.Nat.{ℕ, _+_, _*_, _≤_}
 use lib.Dec.{eqb}
-use lib.ListN.{length}
+use lib.ListN.{length, getD}
 use lib.Seq.{slice}
 use Rattle.paper.specs.Lists.{if, same, elem}
 use Rattle.paper.specs.Grammar.{Attr}
@@ -14,7 +14,7 @@ use Rattle.paper.specs.Values.{value}
 use Rattle.paper.specs.Rules.{settle}
 use Rattle.paper.specs.Plan.{Slots}
 use Rattle.paper.specs.Judging.{names}
-use Rattle.sheet.specs.declared.found.Raw.{Raw}
+use Rattle.room.specs.Paired.{pairsAt, EachPair}
 
 -- the raw bytes of the attribute of that name; none if it is not there
 abbrev pub rawOf : List Attr → List ℕ → List ℕ
@@ -37,39 +37,31 @@ abbrev pub thereIn : List Field → List Attr → List Bool
 thereIn [] l = []
 thereIn (f ∷ fs) l = elem (f .letters) (names l) ∷ thereIn fs l
 
--- ---- what the spans of a tag tell
+-- ---- what the raw values of a tag tell: numbers t, two to each field of its element: where the value starts in the page and where it ends. No value starts
+-- at 0: there are 0 and 0 where the attribute is not there
 
--- the span of an attribute that is not there
-abbrev pub noRaw : Raw
-noRaw = record { at = 0; end = 0 }
+-- the raw bytes of field j
+abbrev pub rawAt : List ℕ → List ℕ → ℕ → List ℕ
+rawAt w t j = slice (getD t (2 * j) 0) (getD t (2 * j + 1) 0) w
 
--- the bytes that a span shows in the page
-abbrev pub shownBy : List ℕ → Raw → List ℕ
-shownBy w r = slice (r .at) (r .end) w
+-- the raw bytes of the first n fields
+abbrev pub rawsAt : List ℕ → ℕ → List ℕ → List (List ℕ)
+rawsAt w n t = pairsAt (λ (a b : ℕ). slice a b w) n t 0
 
--- the raw bytes that the first n spans show in the page
-abbrev pub rawsAt : List ℕ → ℕ → List Raw → List (List ℕ)
-rawsAt w zero rs = []
-rawsAt w (suc n) [] = [] ∷ rawsAt w n []
-rawsAt w (suc n) (r ∷ rs) = shownBy w r ∷ rawsAt w n rs
+-- the slots of an element of kind k whose attributes have these raw values in the page w
+unfoldable pub told : List ℕ → Kind → List ℕ → Slots
+told w k t = settledIn (fieldsOf k) (rawsAt w (length (fieldsOf k)) t)
 
--- the slots of an element of kind k whose attributes have these spans in the page w
-unfoldable pub told : List ℕ → Kind → List Raw → Slots
-told w k rs = settledIn (fieldsOf k) (rawsAt w (length (fieldsOf k)) rs)
+-- whether each of n attributes stands in the tag, by numbers from place i on
+abbrev pub standing : ℕ → List ℕ → ℕ → List Bool
+standing n t i = pairsAt (λ (a b : ℕ). not (eqb a 0)) n t i
 
--- which of the first n spans are there
-abbrev pub thereAt : ℕ → List Raw → List Bool
-thereAt zero rs = []
-thereAt (suc n) [] = false ∷ thereAt n []
-thereAt (suc n) (r ∷ rs) = not (eqb (r .at) 0) ∷ thereAt n rs
+-- the first n raw values lie in the page
+abbrev pub Lie : List ℕ → ℕ → List ℕ → Type 0
+Lie w n t = EachPair (λ (a b : ℕ). (a ≤ b) × (b ≤ length w)) n t 0
 
--- every span lies in the page
-abbrev pub Lie : List ℕ → List Raw → Type 0
-Lie w [] = Unit {0}
-Lie w (r ∷ rs) = (r .at ≤ r .end) × (r .end ≤ length w) × Lie w rs
-
--- the spans tell the attributes l of a tag of kind k in the page w
-pub record Tells (w : List ℕ) (k : Kind) (rs : List Raw) (l : List Attr) : Type 0 where
-  pub lie : Lie w rs
-  pub raws : rawsAt w (length (fieldsOf k)) rs ≡ rawsIn (fieldsOf k) l
-  pub there : thereAt (length (fieldsOf k)) rs ≡ thereIn (fieldsOf k) l
+-- the raw values tell the attributes l of a tag of kind k in the page w
+pub record Tells (w : List ℕ) (k : Kind) (t : List ℕ) (l : List Attr) : Type 0 where
+  pub lie : Lie w (length (fieldsOf k)) t
+  pub raws : rawsAt w (length (fieldsOf k)) t ≡ rawsIn (fieldsOf k) l
+  pub there : standing (length (fieldsOf k)) t 0 ≡ thereIn (fieldsOf k) l

@@ -1,11 +1,11 @@
 // The attributes of one start tag, by the fields of its element.
 ghost use mathlib.Core.Path.{_≡_};
 ghost use mathlib.Core.Bool.{false};
-ghost use Prim.Native.Nat.{_≤_, _<_};
+ghost use Prim.Native.Nat.{_*_, _≤_, _<_};
 ghost use lib.ListN.{length};
 ghost use Rattle.paper.specs.Judging.{names};
 ghost use Rattle.markup.specs.Walk.{insideAt};
-ghost use Rattle.fields.specs.Places.{kindAt};
+ghost use Rattle.fields.specs.Places.{kindAt, countOf};
 ghost use Rattle.fields.specs.Columns.{keyColumn};
 ghost use Rattle.sheet.specs.Fold.{strange};
 ghost use Rattle.sheet.specs.Found.{Tells};
@@ -13,30 +13,24 @@ use fields::lookup::count_of;
 use fields::lookup::field_in;
 use markup::walk::Piece;
 use markup::walk::next_attr;
+use room::clear;
 
-// The bytes between an attribute's quotes, from `at` up to `end` of the page. No value starts at 0: there is 0 where the attribute is not there.
-pub struct Raw {
-    pub at: u16,
-    pub end: u16,
-}
-
-// What stands in a start tag: whether an attribute is unknown or stands twice, and else the raw value of each field, in the table's order,
-// and whether the tag closes itself.
+// What stands in a start tag: whether an attribute is unknown or stands twice, and else whether the tag closes itself.
 pub struct Found {
     pub strange: bool,
     pub shut: bool,
-    pub raws: [Raw; 16],
 }
 
 // Reads the attributes of a start tag of an element of that kind from `at` on, up to the tag's end or to the first attribute that is unknown or
-// stands twice.
-pub fn find(page: &[u8], at: usize, kind: u8, keys: &[u64; 52]) -> Found
-    requires { ⌜ (at ≤ length (now page)) × (length (now page) ≤ 1400) × (kind < 10) × (now keys ≡ keyColumn) ⌝ }
+// stands twice. The raw values, the bytes between the quotes, are told in `raws`, two numbers to a field in the table's order: where it starts in
+// the page and where it ends. No value starts at 0: there are 0 and 0 where the attribute is not there.
+pub fn find(page: &[u8], at: usize, kind: u8, keys: &[u64; 52], raws: &mut [u16]) -> Found
+    requires { ⌜ (at ≤ length (now page)) × (length (now page) ≤ 1400) × (kind < 10) × (now keys ≡ keyColumn) × (2 * countOf (kindAt kind) ≤ length (now raws)) ⌝ }
     ensures { λ r. ⌜ (r .strange ≡ strange (kindAt kind) (names (insideAt (now (page .entry)) at .attrs)))
-        × (r .strange ≡ false → (r .shut ≡ insideAt (now (page .entry)) at .shut) × Tells (now (page .entry)) (kindAt kind) (r .raws) (insideAt (now (page .entry)) at .attrs)) ⌝ }
+        × (r .strange ≡ false → (r .shut ≡ insideAt (now (page .entry)) at .shut) × Tells (now (page .entry)) (kindAt kind) (now (raws .exit)) (insideAt (now (page .entry)) at .attrs)) ⌝ }
 {
-    let mut raws = [Raw { at: 0, end: 0 }; 16];
     let count = count_of(kind);
+    clear(raws, 0, 2 * count);
     let mut i = at;
     loop {
         let piece = next_attr(page, i);
@@ -45,7 +39,6 @@ pub fn find(page: &[u8], at: usize, kind: u8, keys: &[u64; 52]) -> Found
                 return Found {
                     strange: false,
                     shut: shut,
-                    raws: raws,
                 };
             }
             Piece::Attribute {
@@ -59,21 +52,17 @@ pub fn find(page: &[u8], at: usize, kind: u8, keys: &[u64; 52]) -> Found
                     return Found {
                         strange: true,
                         shut: false,
-                        raws: raws,
                     };
                 }
-                let old = raws[j];
-                if old.at != 0 {
+                let s = 2 * j;
+                if raws[s] != 0 {
                     return Found {
                         strange: true,
                         shut: false,
-                        raws: raws,
                     };
                 }
-                raws[j] = Raw {
-                    at: raw_at as u16,
-                    end: raw_end as u16,
-                };
+                raws[s] = raw_at as u16;
+                raws[s + 1] = raw_end as u16;
                 i = raw_end + 1;
             }
         }

@@ -18,6 +18,7 @@ use crate::state::finish;
 use crate::state::kind_under;
 use fields::lookup::keys;
 use fields::lookup::limits;
+use fields::table::RAWS;
 use marks::first_refused;
 use markup::scan::Extent;
 use markup::scan::scan;
@@ -54,6 +55,7 @@ pub fn faults_of(page: &[u8], scratch: &mut [u8]) -> Verdict
 {
     let keys = keys();
     let limits = limits();
+    let mut raws = [0u16; RAWS];
     let mut st = before();
     let mut at = 0;
     loop {
@@ -75,16 +77,15 @@ pub fn faults_of(page: &[u8], scratch: &mut [u8]) -> Verdict
                         place: place,
                     };
                 }
-                let found = find(page, name_end, kind, &keys);
+                let found = find(page, name_end, kind, &keys, &mut raws);
                 if found.strange {
                     return Verdict::Refused {
                         number: 5,
                         place: place,
                     };
                 }
-                let raws = found.raws;
-                let number = flaw_of(page, kind, raws, &limits, scratch);
-                let needs = needs_w(page, kind, raws, scratch);
+                let number = flaw_of(page, kind, &raws, &limits, scratch);
+                let needs = needs_w(page, kind, &raws, scratch);
                 st = enter(st, kind, place, number, needs, found.shut);
                 at = i + 1;
             }

@@ -17,13 +17,13 @@ use Rattle.paper.proofs.ReadSound.{judges}
 use Rattle.markup.specs.Walk.{Inside, insideAt, tagsAt, opened, ended}
 use Rattle.fields.specs.Places.{kindAt, countOf}
 use Rattle.fields.proofs.TableLaws.{kind-back}
-use Rattle.sheet.specs.declared.found.Raw.{Raw}
 use Rattle.sheet.specs.declared.judge.Verdict.the-variants.{Fine}
 use Rattle.sheet.specs.Fold.{strange}
 use Rattle.sheet.specs.Judged.{verdictOf}
 use Rattle.sheet.specs.Found.{Lie, Tells, told}
 use Rattle.sheet.specs.Content.{kindNamed, contentOf}
 use Rattle.sheet.proofs.FoldContent.{content-is}
+use Rattle.sheet.proofs.FoundLaws.{count-is}
 use Rattle.sheet.proofs.FlawLaws.{told-slots}
 use Rattle.tape.specs.Tape.{Elem, elem, header, startsOf, elemsOf, sheetBy, Lies, Kept, Makes}
 use Rattle.tape.specs.Rooms.{tapeRoom, sideRoom, width, valuesLength}
@@ -33,7 +33,6 @@ use Rattle.room.proofs.Alike.{take-more, agree}
 use Rattle.tape.proofs.CleanLaws.{Known, known-tags}
 use Rattle.tape.proofs.RoomLaws.{page-tags, page-clean, tape-enough, side-enough, lies-wide}
 use Rattle.tape.proofs.WalkLaws.{Ends, Starts}
-use Rattle.tape.proofs.ValueLaws.{count-is}
 
 -- ---- a page that is judged to a sheet
 
@@ -107,10 +106,10 @@ known-ended : (b : Bool) (ts : List Tag) → Known (ended b ts) → Known ts
 known-ended true ts K = K
 known-ended false ts K = K
 
--- what is known of the start tag that stands next, and of its spans: k is its kind's number
-pub record Here (w : List ℕ) (at p e k : ℕ) (rs : List Raw) : Type 0 where
+-- what is known of the start tag that stands next, and of its raw values: k is its kind's number
+pub record Here (w : List ℕ) (at p e k : ℕ) (rs : List ℕ) : Type 0 where
   pub elems : startsOf (tagsAt w at) ≡ elem (kindAt k) p (told w (kindAt k) rs) ∷ startsOf (tagsAt w (p + 1))
-  pub lie : Lie w rs
+  pub lie : Lie w (countOf (kindAt k)) rs
   pub known : Known (tagsAt w (p + 1))
 
 module _ {w : List ℕ} {at p e : ℕ} (B : Starts w at p e) (K : Known (tagsAt w at)) (k : ℕ) (q : k ≡ code (kindNamed (slice (p + 1) e w))) where
@@ -124,11 +123,11 @@ module _ {w : List ℕ} {at p e : ℕ} (B : Starts w at p e) (K : Known (tagsAt 
   pub not-strange : strange (kindAt k) (names (insideAt w e .attrs)) ≡ false
   not-strange = rw (← kind-is) (opened-known .0)
 
-  pub here : {rs : List Raw} → Tells w (kindAt k) rs (insideAt w e .attrs) → Here w at p e k rs
+  pub here : {rs : List ℕ} → Tells w (kindAt k) rs (insideAt w e .attrs) → Here w at p e k rs
   here {rs} T = record {
     elems = ap startsOf (B .tags) ∙ elems-start p (slice (p + 1) e w) (insideAt w e) (tagsAt w (p + 1))
         ∙ rw (kind-is, told-slots T);
-    lie = T .lie;
+    lie = rw (count-is (kindAt k)) (T .lie);
     known = known-ended (insideAt w e .shut) (tagsAt w (p + 1)) (opened-known .1);
   }
 
@@ -178,7 +177,7 @@ module _ {w t₀ t : List ℕ} {i f : ℕ} {side₀ side : List ℕ} {m₀ m at 
   wide : f ≡ i + width (H .done)
   wide = lies-wide w side m t i f (H .done) (H .lies)
 
-  module _ {p e k : ℕ} {rs : List Raw} (N : Here w at p e k rs) where
+  module _ {p e k : ℕ} {rs : List ℕ} (N : Here w at p e k rs) where
     x : Elem
     x = elem (kindAt k) p (told w (kindAt k) rs)
 

@@ -18,7 +18,7 @@ use Rattle.paper.specs.Judging.{slotsOf, item, rowOf, Sheet}
 use Rattle.paper.proofs.Told.{is-eq}
 use Rattle.room.proofs.Alike.{Agree, take-more}
 use Rattle.sheet.specs.Content.{kindNamed, attrsOfFirst, slotsFrom, partFrom, wsFrom, rowsFrom, headFrom, contentOf}
-use Rattle.tape.specs.Tape.{Elem, elem, elemOf, startsOf, partBy, wsBy, rowsBy, headBy, sheetBy, header, aside, shownIn, valuesAt, standing, Span, Spans, ElemAt, Lies}
+use Rattle.tape.specs.Tape.{Elem, elem, elemOf, startsOf, partBy, wsBy, rowsBy, headBy, sheetBy, header, aside, shownIn, valuesAt, Span, Spans, ElemAt, Lies}
 
 -- ---- what elements say
 

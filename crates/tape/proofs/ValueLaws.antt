@@ -1,29 +1,26 @@
--- ValueLaws: a value decoded and settled, and what the spans of a tag tell, field by field.
+-- ValueLaws: a value decoded and settled, and what the raw values of a tag tell, field by field.
 -- Assumes nothing.
 use mathlib.Core.Path.{_≡_, refl, sym, ap, _∙_}
 use mathlib.Core.Bool.{true, false}
 use mathlib.Core.List.{List, [], _∷_}
-use Prim.Native.Nat.{ℕ, zero, suc, _+_, _≤_, _<_}
+use Prim.Native.Nat.{ℕ, zero, suc, _+_, _*_, _≤_, _<_}
 use native.Mathlib.Nat.{add-zero}
 use native.Mathlib.Omega.{arith}
-use lib.Dec.{leb}
 use lib.ListN.{length, take, drop, getD, length-append, take-append-drop}
 use lib.Seq.{slice, take-at, drop-at, take-add, length-take-le}
-use borrow.Author.Tests.{leb-true}
 use Rattle.paper.specs.Lists.{concat}
 use Rattle.paper.specs.Values.{value}
 use Rattle.paper.specs.Fields.{Kind, fieldsOf}
 use Rattle.paper.specs.Rules.{isZero}
 use Rattle.paper.specs.Plan.{Slots}
-use Rattle.paper.proofs.Small.{below-at}
 use Rattle.room.specs.Laid.{laid}
 use Rattle.fields.specs.Places.{fieldAt, firstOf, countOf, kindAt, ruleAt, ruleNumber}
 use Rattle.fields.proofs.TableLaws.{field-at}
 use Rattle.fields.proofs.RuleLaws.{rule-back}
 use Rattle.room.proofs.LaidLaws.{laid-before, laid-there}
-use Rattle.sheet.specs.declared.found.Raw.{Raw}
-use Rattle.sheet.specs.Found.{noRaw, told, Lie}
+use Rattle.sheet.specs.Found.{rawAt, told, Lie}
 use Rattle.tape.specs.Making.{settled}
+use Rattle.room.proofs.PairLaws.{each-at}
 use Rattle.sheet.proofs.FlawLaws.{slots-long, slot-at}
 
 -- ---- a value laid
@@ -54,31 +51,21 @@ unfolding settled
 whole-value id rule raw s r e z =
     let q : isZero (fieldAt id .rule) (value raw) ≡ false = rw (e, r, rule-back (fieldAt id .rule)) at z in rw q
 
--- ---- what the spans of a tag tell
+-- ---- what the raw values of a tag tell
 
-pub count-is : (k : Kind) → countOf k ≡ length (fieldsOf k)
-unfolding countOf
-count-is k = refl
-
-pub told-long : (w : List ℕ) (k : Kind) (rs : List Raw) → length (told w k rs) ≡ countOf k
+pub told-long : (w : List ℕ) (k : Kind) (rs : List ℕ) → length (told w k rs) ≡ countOf k
 unfolding countOf
 told-long w k rs = slots-long w k rs
 
 -- one of the slots, by the place of the element's first field
-pub told-here : (w : List ℕ) (k : Kind) (rs : List Raw) (first j : ℕ) → first ≡ firstOf k → j < countOf k
-    → settled (first + j) (slice (getD rs j noRaw .at) (getD rs j noRaw .end) w) ≡ getD (told w k rs) j []
+pub told-here : (w : List ℕ) (k : Kind) (rs : List ℕ) (first j : ℕ) → first ≡ firstOf k → j < countOf k
+    → settled (first + j) (rawAt w rs j) ≡ getD (told w k rs) j []
 unfolding settled countOf
 told-here w k rs first j e h = rw e (sym (slot-at w k rs j h ∙ rw (field-at k j h)))
 
--- no element has more fields than a tag has spans
-pub count-small : (k : ℕ) → k < 10 → countOf (kindAt k) ≤ 16
-unfolding countOf kindAt fieldsOf
-count-small k h = leb-true (countOf (kindAt k)) 16 (below-at 10 (λ (n : ℕ). leb (countOf (kindAt n)) 16) refl k h)
-
-pub lie-at : (w : List ℕ) (rs : List Raw) (j : ℕ) → Lie w rs → j < length rs → (getD rs j noRaw .at ≤ getD rs j noRaw .end) × (getD rs j noRaw .end ≤ length w)
-lie-at w [] j L h = absurd (omega arith)
-lie-at w (r ∷ rs) zero L h = (L .0, L .1)
-lie-at w (r ∷ rs) (suc j) L h = lie-at w rs j (L .2) (omega arith)
+-- the raw value of a field lies in the page
+pub lie-at : (w : List ℕ) (n : ℕ) (t : List ℕ) (j : ℕ) → Lie w n t → j < n → (getD t (2 * j) 0 ≤ getD t (2 * j + 1) 0) × (getD t (2 * j + 1) 0 ≤ length w)
+lie-at w n t j L h = let z : 0 + 2 * j ≡ 2 * j = omega arith in rw z at (each-at (λ (a b : ℕ). (a ≤ b) × (b ≤ length w)) n t 0 j h L)
 
 -- the first values and the next one have no more bytes than all
 pub concat-room : (vs : Slots) (j : ℕ) → j < length vs → length (concat (take j vs)) + length (getD vs j []) ≤ length (concat vs)

@@ -12,9 +12,9 @@ ghost use Rattle.tape.specs.Making.{IsSheet, LaysElem};
 use crate::names::kind_named;
 use crate::values::lay_slots;
 use fields::lookup::count_of;
+use fields::table::RAWS;
 use markup::walk::Mark;
 use markup::walk::next_tag;
-use sheet::found::Raw;
 use sheet::found::find;
 
 // Where the next page begins on the tape, and how many bytes of the side room are then in use.
@@ -28,16 +28,17 @@ fn lay_elem(
     page: &[u8],
     kind: u8,
     place: usize,
-    raws: [Raw; 16],
+    raws: &[u16],
     tape: &mut [u16],
     first: usize,
     side: &mut [u8],
     used: usize,
 ) -> Made
-    requires { ⌜ (length (now page) ≤ 1400) × (kind < 10) × (place ≤ length (now page)) × Lie (now page) raws
+    requires { ⌜ (length (now page) ≤ 1400) × (kind < 10) × (place ≤ length (now page))
+        × (2 * countOf (kindAt kind) ≤ length (now raws)) × Lie (now page) (countOf (kindAt kind)) (now raws)
         × (first + header + 2 * countOf (kindAt kind) ≤ length (now tape)) × (length (now tape) < 65536)
-        × (used + length (concat (told (now page) (kindAt kind) raws)) ≤ length (now side)) × (length (now side) < aside) ⌝ }
-    ensures { λ r. ⌜ LaysElem (now (page .entry)) (elem (kindAt kind) place (told (now (page .entry)) (kindAt kind) raws))
+        × (used + length (concat (told (now page) (kindAt kind) (now raws))) ≤ length (now side)) × (length (now side) < aside) ⌝ }
+    ensures { λ r. ⌜ LaysElem (now (page .entry)) (elem (kindAt kind) place (told (now (page .entry)) (kindAt kind) (now (raws .entry))))
         (now (tape .entry)) (now (tape .exit)) first (r .end) (now (side .entry)) (now (side .exit)) used (r .used) ⌝ }
 {
     let next = first + 3 + 2 * count_of(kind);
@@ -63,6 +64,7 @@ pub fn lay_page(
     ensures { λ r. ⌜ Makes (now (page .entry)) (now (tape .entry)) (now (tape .exit)) first (r .end) (now (side .entry)) (now (side .exit)) used (r .used)
         × (r .end ≤ first + tapeRoom) × (r .used ≤ used + sideRoom) ⌝ }
 {
+    let mut raws = [0u16; RAWS];
     let mut f = first;
     let mut m = used;
     let mut at = 0;
@@ -77,9 +79,8 @@ pub fn lay_page(
             }
             Mark::Start { at: p, name_end } => {
                 let kind = kind_named(page, p + 1, name_end);
-                let found = find(page, name_end, kind, keys);
-                let raws = found.raws;
-                let made = lay_elem(page, kind, p, raws, tape, f, side, m);
+                let _found = find(page, name_end, kind, keys, &mut raws);
+                let made = lay_elem(page, kind, p, &raws, tape, f, side, m);
                 f = made.end;
                 m = made.used;
                 at = p + 1;

@@ -16,7 +16,6 @@ use fields::lookup::first_of;
 use fields::lookup::rule_of;
 use markup::values::decode;
 use room::lay;
-use sheet::found::Raw;
 
 // A start from here on says that the value lies in the side room.
 const ASIDE: u16 = 32768;
@@ -38,26 +37,28 @@ fn lay_value(page: &[u8], from: usize, to: usize, id: usize, room: &mut [u8], n:
     lay(room, n, &scratch[..k])
 }
 
-// Lays the value of one field: its bytes into the side room behind the `used` ones, its start and its end onto the tape at `at`. A value that is absent
-// ends where it starts: behind its quote in the page, or at 0 where the attribute does not stand in the tag. Returns how many bytes are then in use.
+// Lays the value of one field, whose raw bytes stand from `from` up to `to`: its bytes into the side room behind the `used` ones, its start and its end
+// onto the tape at `at`. A value that is absent ends where it starts: behind its quote in the page, or at 0 where the attribute does not stand in the
+// tag. Returns how many bytes are then in use.
 fn lay_slot(
     page: &[u8],
-    raw: Raw,
+    from: u16,
+    to: u16,
     id: usize,
     tape: &mut [u16],
     at: usize,
     side: &mut [u8],
     used: usize,
 ) -> usize
-    requires { ⌜ (raw .at ≤ raw .end) × (raw .end ≤ length (now page)) × (length (now page) ≤ 1400) × (id < 52) × (at + 2 ≤ length (now tape))
-        × (used + length (settled id (slice (raw .at) (raw .end) (now page))) ≤ length (now side)) × (length (now side) < aside) ⌝ }
-    ensures { λ r. ⌜ LaysSlots (now (page .entry)) (settled id (slice (raw .at) (raw .end) (now (page .entry))) ∷ [])
+    requires { ⌜ (from ≤ to) × (to ≤ length (now page)) × (length (now page) ≤ 1400) × (id < 52) × (at + 2 ≤ length (now tape))
+        × (used + length (settled id (slice from to (now page))) ≤ length (now side)) × (length (now side) < aside) ⌝ }
+    ensures { λ r. ⌜ LaysSlots (now (page .entry)) (settled id (slice from to (now (page .entry))) ∷ [])
         (now (tape .entry)) (now (tape .exit)) at (now (side .entry)) (now (side .exit)) used r ⌝ }
 {
-    let e = lay_value(page, raw.at as usize, raw.end as usize, id, side, used);
+    let e = lay_value(page, from as usize, to as usize, id, side, used);
     if e == used {
-        tape[at] = raw.at;
-        tape[at + 1] = raw.at;
+        tape[at] = from;
+        tape[at + 1] = from;
         return e;
     }
     tape[at] = used as u16 + ASIDE;
@@ -70,15 +71,16 @@ fn lay_slot(
 pub fn lay_slots(
     page: &[u8],
     kind: u8,
-    raws: [Raw; 16],
+    raws: &[u16],
     tape: &mut [u16],
     at: usize,
     side: &mut [u8],
     used: usize,
 ) -> usize
-    requires { ⌜ (length (now page) ≤ 1400) × (kind < 10) × Lie (now page) raws × (at + 2 * countOf (kindAt kind) ≤ length (now tape))
-        × (used + length (concat (told (now page) (kindAt kind) raws)) ≤ length (now side)) × (length (now side) < aside) ⌝ }
-    ensures { λ r. ⌜ LaysSlots (now (page .entry)) (told (now (page .entry)) (kindAt kind) raws)
+    requires { ⌜ (length (now page) ≤ 1400) × (kind < 10)
+        × (2 * countOf (kindAt kind) ≤ length (now raws)) × Lie (now page) (countOf (kindAt kind)) (now raws) × (at + 2 * countOf (kindAt kind) ≤ length (now tape))
+        × (used + length (concat (told (now page) (kindAt kind) (now raws))) ≤ length (now side)) × (length (now side) < aside) ⌝ }
+    ensures { λ r. ⌜ LaysSlots (now (page .entry)) (told (now (page .entry)) (kindAt kind) (now (raws .entry)))
         (now (tape .entry)) (now (tape .exit)) at (now (side .entry)) (now (side .exit)) used r ⌝ }
 {
     let first = first_of(kind);
@@ -86,8 +88,9 @@ pub fn lay_slots(
     let mut m = used;
     let mut j = 0;
     while j < count {
-        let raw = raws[j];
-        m = lay_slot(page, raw, first + j, tape, at + 2 * j, side, m);
+        let from = raws[2 * j];
+        let to = raws[2 * j + 1];
+        m = lay_slot(page, from, to, first + j, tape, at + 2 * j, side, m);
         j += 1;
     }
     m

@@ -7,24 +7,22 @@ use native.Mathlib.Omega.{arith}
 use lib.ListN.{length}
 use Rattle.paper.specs.Fields.{Kind}
 use Rattle.fields.specs.Places.{kindAt}
-use Rattle.sheet.specs.declared.found.Raw.{Raw}
-use Rattle.sheet.proofs.FoundLaws.{few-fields}
 use Rattle.sheet.proofs.FlawLaws.{fieldsFrom, turn-broken, turn-missing, turn-fine, turn-done}
 use Rattle.sheet.proofs.flaws.fields_flaw.Statement.{statement}
 use Rattle.sheet.proofs.flaws.fields_flaw.Tie as tie
 use borrow.Author.Needs.{needs}
 
 -- behind j of the fields: the worst fault so far is 8 or none
-record Held (w room₀ room : List ℕ) (k : Kind) (rs : List Raw) (count worst j : ℕ) : Type 0 where
+record Held (w room₀ room : List ℕ) (k : Kind) (rs : List ℕ) (count worst j : ℕ) : Type 0 where
   pub within : j ≤ count
   pub long : length room ≡ length room₀
   pub right : fieldsFrom w k rs 9 0 ≡ fieldsFrom w k rs worst j
 
 abbrev Inv-loop : tie.InvT-loop
-Inv-loop page kind limits scratch₀ raws first count worst₀ j₀ scratch worst j = Held page scratch₀ scratch (kindAt kind) raws count worst j
+Inv-loop page kind raws limits scratch₀ first count worst₀ j₀ scratch worst j = Held page scratch₀ scratch (kindAt kind) raws count worst j
 
 abbrev μ-loop : tie.MeasureT-loop
-μ-loop page kind limits scratch₀ raws first count worst₀ j₀ scratch worst j = count - j
+μ-loop page kind raws limits scratch₀ first count worst₀ j₀ scratch worst j = count - j
 
 first-of-requires : tie.Need-first-of-requires Inv-loop μ-loop
 first-of-requires c κs = search needs
@@ -35,19 +33,19 @@ count-of-requires c κs = search needs
 loop-holds : tie.Need-loop-holds Inv-loop μ-loop
 loop-holds c = record { within = omega arith; long = refl; right = refl }
 
-mul-field-flaw : tie.Need-mul-field-flaw Inv-loop μ-loop
-mul-field-flaw c = search needs
-
-array-copy-out-field-flaw : tie.Need-array-copy-out-field-flaw Inv-loop μ-loop
-array-copy-out-field-flaw c =
-    let C = c .before .before in
-    omega (arith, C .count-of .ensures .0, few-fields _ (C .before .before .before .before .pre .1))
-
 add-field-flaw : tie.Need-add-field-flaw Inv-loop μ-loop
 add-field-flaw c = search needs
 
 field-flaw-requires : tie.Need-field-flaw-requires Inv-loop μ-loop
-field-flaw-requires c κs = search needs
+field-flaw-requires c κs =
+    let C = c .before .before .before in
+    let S = c .before .before .before .before .before .before .before .before in
+    let L = c .before .before in (
+      omega (arith, S .pre .0, L .loop .inv .long),
+      omega (arith, S .pre .2, C .count-of .ensures .0, c .before .loop-test .taken),
+      omega (arith, C .count-of .ensures .0, C .count-of .ensures .1, c .before .before .before .before .first-of .ensures, c .before .loop-test .taken),
+      S .pre .3,
+    )
 
 add-next : tie.Need-add-next Inv-loop μ-loop
 add-next c = search needs
@@ -58,9 +56,9 @@ same-length c = search needs
 returns : tie.Need-returns Inv-loop μ-loop
 returns c =
     let F = c .before .before .before in
-    let L = F .before .before .before .before in
+    let L = F .before .before .before in
     let C = L .before in
-    sym (L .loop .inv .right ∙ turn-broken _ _ _ _ _ _ _ _ (C .before .first-of .ensures) (C .count-of .ensures .0) (F .before .before .before .loop-test .taken) (F .field-flaw .ensures) (c .if1 .taken))
+    sym (L .loop .inv .right ∙ turn-broken _ _ _ _ _ _ _ _ (C .before .first-of .ensures) (C .count-of .ensures .0) (F .before .before .loop-test .taken) (F .field-flaw .ensures) (c .if1 .taken))
 
 loop-less : tie.Need-loop-less Inv-loop μ-loop
 loop-less c = search needs
@@ -68,12 +66,12 @@ loop-less c = search needs
 loop-again : tie.Need-loop-again Inv-loop μ-loop
 loop-again c =
     let F = c .before .before .before .before in
-    let L = F .before .before .before .before in
+    let L = F .before .before .before in
     let C = L .before in
     record {
       within = search needs;
-      long = F .field-flaw .kept .1 .1 .1 .1 .0 ∙ L .loop .inv .long;
-      right = L .loop .inv .right ∙ turn-missing _ _ _ _ _ _ _ _ (C .before .first-of .ensures) (C .count-of .ensures .0) (F .before .before .before .loop-test .taken) (F .field-flaw .ensures) (c .if2 .taken);
+      long = F .field-flaw .kept .1 .1 .1 .1 .1 .0 ∙ L .loop .inv .long;
+      right = L .loop .inv .right ∙ turn-missing _ _ _ _ _ _ _ _ (C .before .first-of .ensures) (C .count-of .ensures .0) (F .before .before .loop-test .taken) (F .field-flaw .ensures) (c .if2 .taken);
     }
 
 loop-less-2 : tie.Need-loop-less-2 Inv-loop μ-loop
@@ -82,12 +80,12 @@ loop-less-2 c = search needs
 loop-again-2 : tie.Need-loop-again-2 Inv-loop μ-loop
 loop-again-2 c =
     let F = c .before .before .before .before in
-    let L = F .before .before .before .before in
+    let L = F .before .before .before in
     let C = L .before in
     record {
       within = search needs;
-      long = F .field-flaw .kept .1 .1 .1 .1 .0 ∙ L .loop .inv .long;
-      right = L .loop .inv .right ∙ turn-fine _ _ _ _ _ _ _ _ (C .before .first-of .ensures) (C .count-of .ensures .0) (F .before .before .before .loop-test .taken) (F .field-flaw .ensures) (c .before .if1 .left) (c .if2 .left);
+      long = F .field-flaw .kept .1 .1 .1 .1 .1 .0 ∙ L .loop .inv .long;
+      right = L .loop .inv .right ∙ turn-fine _ _ _ _ _ _ _ _ (C .before .first-of .ensures) (C .count-of .ensures .0) (F .before .before .loop-test .taken) (F .field-flaw .ensures) (c .before .if1 .left) (c .if2 .left);
     }
 
 same-length-2 : tie.Need-same-length-2 Inv-loop μ-loop
@@ -107,8 +105,6 @@ fields-flaw-spec =
     first-of-requires
     count-of-requires
     loop-holds
-    mul-field-flaw
-    array-copy-out-field-flaw
     add-field-flaw
     field-flaw-requires
     add-next

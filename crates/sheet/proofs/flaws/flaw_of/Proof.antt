@@ -1,5 +1,6 @@
 -- `sheet::flaws::flaw_of` meets its contract: each answer is the least fault where no lower one was found.
 -- Assumes nothing.
+
 use mathlib.Core.Path.{sym, _∙_}
 use native.Mathlib.Omega.{arith}
 use Rattle.sheet.proofs.FlawLaws.{unbroken, flaw-six, flaw-seven, flaw-pages, flaw-eight, flaw-clash, flaw-none}
@@ -36,8 +37,8 @@ pages-flaw-requires c κs =
     let J = c .before in
     let O = J .before .before .before in
     let E = O .before .before .before .before .before in
-    let S = E .before .before .before .before in
-    (omega (arith, S .pre .0, O .fields-flaw .kept .1 .1 .1 .1 .0, E .edition-differs .kept .1 .1 .1 .0), S .pre .1, unbroken _ _ _ (O .fields-flaw .ensures) (J .if2 .left))
+    let S = E .before .before .before .before .before in
+    (omega (arith, S .pre .0, O .fields-flaw .kept .1 .1 .1 .1 .0, E .edition-differs .kept .1 .1 .1 .0), S .pre .1, S .pre .2, unbroken _ _ _ (O .fields-flaw .ensures) (J .if2 .left))
 
 same-length-3 : tie.Need-same-length-3
 same-length-3 c = search needs

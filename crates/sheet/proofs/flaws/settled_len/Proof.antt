@@ -1,5 +1,6 @@
 -- `sheet::flaws::settled_len` meets its contract: a zero dose is absent.
 -- Assumes nothing.
+
 use mathlib.Core.Path.{sym}
 use native.Mathlib.Omega.{arith}
 use lib.Seq.{length-take-le}
@@ -16,7 +17,7 @@ slice-reshare-prefix-is-zero : tie.Need-slice-reshare-prefix-is-zero
 slice-reshare-prefix-is-zero c = search needs
 
 slice-aggregate-is-zero : tie.Need-slice-aggregate-is-zero
-slice-aggregate-is-zero c = let N = c .before .before .before .value-len in sym (length-take-le _ _ (omega (arith, N .ensures .1, N .kept .1 .1 .0)))
+slice-aggregate-is-zero c = let N = c .before .before .before .value-len in sym (length-take-le _ _ (omega (arith, N .ensures .1, N .kept .1 .1 .1 .0)))
 
 is-zero-requires : tie.Need-is-zero-requires
 is-zero-requires c κs = search needs
@@ -28,7 +29,7 @@ returns : tie.Need-returns
 returns c =
     let Z = c .before in
     let n = Z .before .before .before .before .value-len .ensures in
-    (settled-zero (ruleAt (Z .before .before .before .before .before .before .before .before .args .rule)) _ _ _ (n .0) (Z .is-zero .ensures) (c .if1 .taken), omega arith)
+    (settled-zero (ruleAt (Z .before .before .before .before .before .before .before .before .before .args .rule)) _ _ _ (n .0) (Z .is-zero .ensures) (c .if1 .taken), omega arith)
 
 same-length-2 : tie.Need-same-length-2
 same-length-2 c = search needs
@@ -37,7 +38,7 @@ returns-2 : tie.Need-returns-2
 returns-2 c =
     let Z = c .before in
     let n = Z .before .before .before .before .value-len .ensures in
-    (settled-whole (ruleAt (Z .before .before .before .before .before .before .before .before .args .rule)) _ _ _ (n .0) (Z .is-zero .ensures) (c .if1 .left), n .1)
+    (settled-whole (ruleAt (Z .before .before .before .before .before .before .before .before .before .args .rule)) _ _ _ (n .0) (Z .is-zero .ensures) (c .if1 .left), n .1)
 
 pub settled-len-spec : {M : Type 1} → statement M
 settled-len-spec =

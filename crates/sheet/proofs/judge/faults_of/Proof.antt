@@ -1,9 +1,10 @@
 -- `sheet::judge::faults_of` meets its contract: the least fault of the page's tags is that of the tags still to come, from the state on.
 -- Assumes nothing.
+
 use mathlib.Core.Path.{_≡_, refl, sym, ap, _∙_, subst}
 use mathlib.Core.Bool.{Bool}
 use mathlib.Core.List.{List, []}
-use Prim.Native.Nat.{ℕ, _+_, _-_, _≤_}
+use Prim.Native.Nat.{ℕ, _+_, _*_, _-_, _≤_}
 use native.Mathlib.Omega.{arith}
 use lib.ListN.{length}
 use lib.Seq.{slice}
@@ -14,8 +15,9 @@ use Rattle.paper.specs.Judging.{names}
 use Rattle.markup.specs.Walk.{Inside, tagsAt, tagOf, insideAt, Outer}
 use Rattle.markup.specs.declared.walk.Mark.{Mark}
 use Rattle.markup.specs.declared.walk.Mark.the-variants.{Start, End, Nothing}
-use Rattle.fields.specs.Places.{kindAt}
+use Rattle.fields.specs.Places.{kindAt, countOf}
 use Rattle.fields.specs.Columns.{keyColumn, limitColumn}
+use Rattle.fields.proofs.ColumnLaws.{part-within}
 use Rattle.room.proofs.Parts.{part-is}
 use Rattle.sheet.specs.Fold.{St, given, kindUnder, barred, strange, opened, judgeFold, foldPage}
 use Rattle.sheet.specs.Judged.{stOf, left, Sound, verdictBy}
@@ -25,19 +27,20 @@ use Rattle.sheet.proofs.judge.faults_of.Statement.{statement}
 use Rattle.sheet.proofs.judge.faults_of.Tie as tie
 
 -- what holds before each tag
-record Held (w scratch₀ keys limits scratch : List ℕ) (st : State) (at : ℕ) : Type 0 where
+record Held (w scratch₀ keys limits scratch raws : List ℕ) (st : State) (at : ℕ) : Type 0 where
   pub inner : at ≤ length w
   pub long : length scratch ≡ length scratch₀
+  pub lent : length raws ≡ 104
   pub table : keys ≡ keyColumn
   pub bounds : limits ≡ limitColumn
   pub sound : Sound st
   pub right : foldPage (tagsAt w 0) ≡ judgeFold (stOf st) (tagsAt w at)
 
 abbrev Inv-loop : tie.InvT-loop
-Inv-loop page scratch₀ keys limits st₀ at₀ scratch st at = Held page scratch₀ keys limits scratch st at
+Inv-loop page scratch₀ keys limits raws₀ st₀ at₀ scratch raws st at = Held page scratch₀ keys limits scratch raws st at
 
 abbrev μ-loop : tie.MeasureT-loop
-μ-loop page scratch₀ keys limits st₀ at₀ scratch st at = length page - at
+μ-loop page scratch₀ keys limits raws₀ st₀ at₀ scratch raws st at = length page - at
 
 -- the page, where the loop begins a turn
 abbrev pageAt : tie.At-loop Inv-loop μ-loop → List ℕ
@@ -111,6 +114,10 @@ module _ (c : tie.After-kind-under Inv-loop μ-loop) where
       (shape (started-by at-mark) (Start i e) (at-mark .mark2 .given .1))
       (c .kind-under .ensures .0 ∙ ap (λ (n : List ℕ). code (kindUnder (at-loop .loop .st .cur) n)) (part-is w (i + 1) e))
 
+  -- there are numbers enough for its raw values
+  enough : 2 * countOf (kindAt (c .kind-under .result)) ≤ 104
+  enough = omega (arith, part-within (c .kind-under .result) (c .kind-under .ensures .1))
+
 keys-requires : tie.Need-keys-requires Inv-loop μ-loop
 keys-requires c κs = search needs
 
@@ -125,6 +132,7 @@ unfolding foldPage
 loop-holds c = record {
   inner = search needs;
   long = refl;
+  lent = search needs;
   table = c .before .before .keys .ensures;
   bounds = c .before .limits .ensures;
   sound = c .before2 .ensures .1;
@@ -173,6 +181,7 @@ loop-again c =
     record {
       inner = omega (arith, end-order M .1);
       long = L .loop .inv .long;
+      lent = L .loop .inv .lent;
       table = L .loop .inv .table;
       bounds = L .loop .inv .bounds;
       sound = c .close .ensures .1;
@@ -213,47 +222,60 @@ same-length-2 c = search needs
 returns-2 : tie.Need-returns-2 Inv-loop μ-loop
 returns-2 c = let K = c .before .before in five-at _ (start-at (at-mark K)) (turn K ∙ rw (sym (c .before .bars .ensures) ∙ c .if1 .taken))
 
+slice-aggregate-find : tie.Need-slice-aggregate-find Inv-loop μ-loop
+slice-aggregate-find c = search needs
+
 find-requires : tie.Need-find-requires Inv-loop μ-loop
 find-requires c κs =
-    let K = c .before .before .before in
+    let K = c .before .before .before .before in
     let L = at-loop K in
-    (start-order (at-mark K) .2, short L, K .kind-under .ensures .1, L .loop .inv .table)
+    (start-order (at-mark K) .2, short L, K .kind-under .ensures .1, L .loop .inv .table, omega (arith, enough K, L .loop .inv .lent))
 
 same-length-3 : tie.Need-same-length-3 Inv-loop μ-loop
 same-length-3 c = search needs
 
 returns-3 : tie.Need-returns-3 Inv-loop μ-loop
 returns-3 c =
-    let E = c .before in
-    let X = E .before .before in
+    let E = c .before .before in
+    let X = E .before .before .before in
     let K = X .before .before in
     five-at _ (start-at (at-mark K)) (turn K ∙ rw (sym (X .before .bars .ensures) ∙ X .if1 .left, sym (E .find .ensures .0) ∙ c .if2 .taken))
 
+-- the raw values that were found stand in as many numbers
+told-in : (E : tie.After-find Inv-loop μ-loop) → length (E .find .last .1 .1 .1 .1 .0) ≡ 104
+told-in E = E .find .kept .1 .1 .1 .1 .0 ∙ at-loop (E .before .before .before .before .before) .loop .inv .lent
+
+slice-aggregate-flaw-of : tie.Need-slice-aggregate-flaw-of Inv-loop μ-loop
+slice-aggregate-flaw-of c = search needs
+
 flaw-of-requires : tie.Need-flaw-of-requires Inv-loop μ-loop
 flaw-of-requires c κs =
-    let E = c .before .before .before .before in
-    let K = E .before .before .before .before in
+    let E = c .before .before .before .before .before in
+    let K = E .before .before .before .before .before in
     let L = at-loop K in
-    (roomy L, K .kind-under .ensures .1, L .loop .inv .bounds)
+    (roomy L, K .kind-under .ensures .1, omega (arith, enough K, told-in E), L .loop .inv .bounds)
+
+slice-aggregate-needs-w : tie.Need-slice-aggregate-needs-w Inv-loop μ-loop
+slice-aggregate-needs-w c = search needs
 
 needs-w-requires : tie.Need-needs-w-requires Inv-loop μ-loop
 needs-w-requires c κs =
-    let F = c .before .before .before in
-    let E = F .before .before .before .before .before in
-    let K = E .before .before .before .before in
+    let F = c .before .before .before .before in
+    let E = F .before .before .before .before .before .before in
+    let K = E .before .before .before .before .before in
     let L = at-loop K in
-    (short L, omega (arith, roomy L, F .flaw-of .kept .1 .1 .1 .1 .0), K .kind-under .ensures .1)
+    (short L, omega (arith, roomy L, F .flaw-of .kept .1 .1 .1 .1 .0), K .kind-under .ensures .1, omega (arith, enough K, told-in E))
 
 enter-requires : tie.Need-enter-requires Inv-loop μ-loop
 enter-requires c κs =
-    let F = c .before .before .before .before .before .before in
-    let X = F .before .before .before .before .before .before .before in
+    let F = c .before .before .before .before .before .before .before in
+    let X = F .before .before .before .before .before .before .before .before .before in
     let K = X .before .before in
     (K .kind-under .ensures .1, at-loop K .loop .inv .sound, sym (X .before .bars .ensures) ∙ X .if1 .left)
 
 -- where the element of the start tag that is left behind is known
 abbrev known-at : tie.After-enter Inv-loop μ-loop → tie.After-kind-under Inv-loop μ-loop
-known-at c = c .before .before .before .before .before .before .before .before .before .before .before .before .before .before .before .before
+known-at c = c .before .before .before .before .before .before .before .before .before .before .before .before .before .before .before .before .before .before .before
 
 add-at-2 : tie.Need-add-at-2 Inv-loop μ-loop
 add-at-2 c =
@@ -267,10 +289,10 @@ loop-less-2 c = let h = start-order (at-mark (known-at c)) in omega (arith, h .0
 loop-again-2 : tie.Need-loop-again-2 Inv-loop μ-loop
 loop-again-2 c =
     let W = c .before .before .before in
-    let F = W .before .before .before .before in
+    let F = W .before .before .before .before .before in
     let Y = F .before .before .before .before in
-    let E = Y .before in
-    let X = E .before .before in
+    let E = Y .before .before in
+    let X = E .before .before .before in
     let K = X .before .before in
     let M = at-mark K in
     let L = at-loop K in
@@ -280,6 +302,7 @@ loop-again-2 c =
     record {
       inner = omega (arith, h .1, h .2);
       long = W .needs-w .kept .1 .1 .1 .0 ∙ F .flaw-of .kept .1 .1 .1 .1 .0 ∙ L .loop .inv .long;
+      lent = told-in E;
       table = L .loop .inv .table;
       bounds = L .loop .inv .bounds;
       sound = c .enter .ensures .1;
@@ -319,10 +342,13 @@ faults-of-spec =
     bars-requires
     same-length-2
     returns-2
+    slice-aggregate-find
     find-requires
     same-length-3
     returns-3
+    slice-aggregate-flaw-of
     flaw-of-requires
+    slice-aggregate-needs-w
     needs-w-requires
     enter-requires
     add-at-2

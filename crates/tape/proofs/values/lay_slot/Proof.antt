@@ -9,13 +9,7 @@ use Rattle.tape.proofs.values.lay_slot.Tie as tie
 
 -- where the call began
 abbrev entry : tie.After-slice-known3 → tie.Start
-entry c = c .before .before .before .before .before .before .before .before .before
-
-cast-lay-value : tie.Need-cast-lay-value
-cast-lay-value c = search needs
-
-cast-lay-value-2 : tie.Need-cast-lay-value-2
-cast-lay-value-2 c = search needs
+entry c = c .before .before .before .before .before .before .before
 
 lay-value-requires : tie.Need-lay-value-requires
 lay-value-requires c κs = search needs
@@ -89,8 +83,6 @@ pub lay-slot-spec : {M : Type 1} → statement M
 lay-slot-spec =
     tie.close
     (tie.spec
-    cast-lay-value
-    cast-lay-value-2
     lay-value-requires
     mul-tape
     slice-write-tape
