@@ -14,7 +14,7 @@ use borrow.Author.Tests.{eqb-true, leb-true}
 use Rattle.paper.specs.Lists.{same, every}
 use Rattle.paper.specs.Fields.{Kind, code, Field, table, fieldsOf, tagName, excluded}
 use Rattle.paper.proofs.Small.{both, below-at, same-eq, every-at}
-use Rattle.fields.specs.Places.{kindAt, ruleNumber, noField, fieldAt, firstOf, countOf, under, onesOf, othersOf, keyOf}
+use Rattle.fields.specs.Places.{fieldCount, kindAt, ruleNumber, noField, fieldAt, firstOf, countOf, under, onesOf, othersOf, keyOf}
 use Rattle.fields.specs.Columns.{bit, packed, entryOf, limitOf, partOf, keyColumn, limitColumn, firstColumn, countColumn, childKeyColumn, childKindColumn, childFirstColumn, childCountColumn, oneColumn, otherColumn, pairFirstColumn, pairCountColumn}
 
 -- ---- a field's columns
@@ -143,6 +143,11 @@ other-at e i h l = let within = pairs-within e h in other-entry (entryOf (packed
 pub part-within : (e : ℕ) → e < 10 → firstOf (kindAt e) + countOf (kindAt e) ≤ 52
 unfolding firstOf countOf kindAt fieldsOf
 part-within e h = leb-true (firstOf (kindAt e) + countOf (kindAt e)) 52 (below-at 10 (λ (n : ℕ). leb (firstOf (kindAt n) + countOf (kindAt n)) 52) refl e h)
+
+-- the table has as many fields as is said
+pub table-length : length table ≡ fieldCount
+unfolding fieldsOf
+table-length = refl
 
 -- the column of keys is as long as the table
 pub key-length : length keyColumn ≡ 52

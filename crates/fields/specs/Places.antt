@@ -17,7 +17,7 @@ abbrev pub kindCount : ℕ
 kindCount = length kinds
 
 abbrev pub fieldCount : ℕ
-fieldCount = length table
+fieldCount = 52
 
 -- the element of a number; a number of no element is that of an unknown one
 unfoldable pub kindAt : ℕ → Kind

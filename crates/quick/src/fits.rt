@@ -7,7 +7,7 @@ ghost use lib.ListN.{length, getD};
 ghost use Rattle.paper.specs.Fields.{MP, fieldsOf};
 ghost use Rattle.paper.specs.Grammar.{Attr};
 ghost use Rattle.paper.specs.Judging.{slotsOf};
-ghost use Rattle.fields.specs.Places.{kindAt};
+ghost use Rattle.fields.specs.Places.{kindAt, kindCount};
 ghost use Rattle.sheet.specs.Fold.{needsW};
 ghost use Rattle.tape.specs.Tape.{shownIn, Span, Spans, Holds};
 ghost use Rattle.quick.specs.Fits as Spec;
@@ -152,7 +152,7 @@ fn medication_fits(tape: &[u16], base: usize) -> bool
 
 // Whether the fields of an element go together.
 pub fn tag_fits(page: &[u8], kind: u8, tape: &[u16], base: usize, side: &[u8]) -> bool
-    requires { ⌜ (kind < 10) × (base + 2 * length (fieldsOf (kindAt kind)) ≤ length (now tape)) × (length (now tape) < 65536)
+    requires { ⌜ (kind < kindCount) × (base + 2 * length (fieldsOf (kindAt kind)) ≤ length (now tape)) × (length (now tape) < 65536)
         × Spans (now page) (length (now side)) (length (fieldsOf (kindAt kind))) (now tape) base ⌝ }
     ensures { λ r. ⌜ (r ≡ true → Spec.Fits (now (page .entry)) (now (side .entry)) (kindAt kind) (now (tape .entry)) base) ⌝ }
 {
@@ -179,7 +179,7 @@ pub fn tag_fits(page: &[u8], kind: u8, tape: &[u16], base: usize, side: &[u8]) -
 
 // Whether an element is an M that has neither p nor a.
 pub fn needs_w(kind: u8, tape: &[u16], base: usize) -> bool
-    requires { ⌜ (kind < 10) × (base + 2 * length (fieldsOf (kindAt kind)) ≤ length (now tape)) × (length (now tape) < 65536) ⌝ }
+    requires { ⌜ (kind < kindCount) × (base + 2 * length (fieldsOf (kindAt kind)) ≤ length (now tape)) × (length (now tape) < 65536) ⌝ }
     ensures { λ r. ⌜ ((w side : List ℕ) (l : List Attr) → Holds w side (length side) (kindAt kind) (now (tape .entry)) base l → r ≡ needsW (kindAt kind) (slotsOf (fieldsOf (kindAt kind)) l)) ⌝ }
 {
     if kind != MEDICATION {

@@ -3,7 +3,8 @@ ghost use mathlib.Core.Path.{_≡_};
 ghost use Prim.Native.Nat.{_+_, _≤_, _<_};
 ghost use lib.ListN.{length};
 ghost use Rattle.paper.specs.Fields.{fieldsOf};
-ghost use Rattle.fields.specs.Places.{kindAt, placeIn, firstOf, countOf};
+ghost use Rattle.paper.specs.Sizes.{pageBytes};
+ghost use Rattle.fields.specs.Places.{kindAt, placeIn, firstOf, countOf, fieldCount, kindCount};
 ghost use Rattle.fields.specs.Columns.{keyColumn};
 ghost use Rattle.quick.specs.Letters.{letterTable, LetterAt};
 use crate::attrs::is_quote;
@@ -27,15 +28,15 @@ pub fn letter_table() -> [u8; 1280]
 
 // How many fields an element has.
 pub fn count_in(letters: &[u8; 1280], kind: u8) -> usize
-    requires { ⌜ (kind < 10) × (now letters ≡ letterTable) ⌝ }
-    ensures { λ r. ⌜ (r ≡ countOf (kindAt kind)) × (firstOf (kindAt kind) + r ≤ 52) ⌝ }
+    requires { ⌜ (kind < kindCount) × (now letters ≡ letterTable) ⌝ }
+    ensures { λ r. ⌜ (r ≡ countOf (kindAt kind)) × (firstOf (kindAt kind) + r ≤ fieldCount) ⌝ }
 {
     letters[kind as usize * ROW] as usize - NO_PLACE
 }
 
 // The place of an element's first field in the table of fields.
 pub fn first_in(letters: &[u8; 1280], kind: u8) -> usize
-    requires { ⌜ (kind < 10) × (now letters ≡ letterTable) ⌝ }
+    requires { ⌜ (kind < kindCount) × (now letters ≡ letterTable) ⌝ }
     ensures { λ r. ⌜ r ≡ firstOf (kindAt kind) ⌝ }
 {
     letters[kind as usize * ROW + 1] as usize - NO_PLACE
@@ -43,7 +44,7 @@ pub fn first_in(letters: &[u8; 1280], kind: u8) -> usize
 
 // The place of a field among its element's, by its letters; the number of the element's fields if it has no such field.
 pub fn field_by(keys: &[u64], letters: &[u8; 1280], kind: u8, name: &[u8]) -> usize
-    requires { ⌜ (now keys ≡ keyColumn) × (kind < 10) × (now letters ≡ letterTable) ⌝ }
+    requires { ⌜ (now keys ≡ keyColumn) × (kind < kindCount) × (now letters ≡ letterTable) ⌝ }
     ensures { λ r. ⌜ (r ≡ placeIn (now (name .entry)) (fieldsOf (kindAt kind))) × (r ≤ countOf (kindAt kind)) ⌝ }
 {
     let first = first_in(letters, kind);
@@ -53,7 +54,7 @@ pub fn field_by(keys: &[u64], letters: &[u8; 1280], kind: u8, name: &[u8]) -> us
 
 // The place among an element's fields of the one whose name is the letter at `a`, if `=` and a quote follow at once; else 16 or more.
 pub fn letter_place(page: &[u8], a: usize, kind: u8, letters: &[u8; 1280]) -> usize
-    requires { ⌜ (a ≤ length (now page)) × (length (now page) ≤ 1400) × (kind < 10) × (now letters ≡ letterTable) ⌝ }
+    requires { ⌜ (a ≤ length (now page)) × (length (now page) ≤ pageBytes) × (kind < kindCount) × (now letters ≡ letterTable) ⌝ }
     ensures { λ r. ⌜ (r < 16 → LetterAt (now (page .entry)) (kindAt kind) a r) ⌝ }
 {
     if byte_or(page, a + 1) != 61 {

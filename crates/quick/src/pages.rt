@@ -5,8 +5,9 @@ ghost use Prim.Native.Nat.{ℕ, _+_, _*_, _≤_, _<_};
 ghost use lib.ListN.{length, drop, getD, set};
 ghost use Rattle.paper.specs.Lists.{until};
 ghost use Rattle.paper.specs.Bytes.{isSpace};
+ghost use Rattle.paper.specs.Sizes.{pageBytes};
 ghost use Rattle.sheet.specs.Judged.{Sound};
-ghost use Rattle.fields.specs.Places.{kindAt};
+ghost use Rattle.fields.specs.Places.{kindAt, kindCount};
 ghost use Rattle.tape.specs.Tape.{aside, Makes};
 ghost use Rattle.quick.specs.Letters.{Names};
 ghost use Rattle.quoted.specs.Valued.{Tables};
@@ -20,6 +21,8 @@ use crate::tags::name_behind;
 use crate::take::put;
 use crate::take::spaces_end;
 use crate::take::take_attrs;
+use fields::places::FIELDS;
+use fields::places::MP;
 use room::byte_or;
 use sheet::state::State;
 use sheet::state::bars;
@@ -30,9 +33,6 @@ use sheet::state::finish;
 
 // How many numbers stand before an element's values on the tape.
 const HEADER: usize = 3;
-
-// The number of MP.
-const PLAN: u8 = 1;
 
 // The number that stands for no fault.
 const NO_FAULT: u8 = 9;
@@ -61,16 +61,16 @@ pub fn take_tag(
     p: usize,
     from: usize,
     kind: u8,
-    keys: &[u64; 52],
+    keys: &[u64; FIELDS],
     letters: &[u8; 1280],
     odd: &[u8; 256],
-    limits: &[u64; 52],
+    limits: &[u64; FIELDS],
     tape: &mut [u16],
     f: usize,
     side: &mut [u8],
     used: usize,
 ) -> Tag
-    requires { ⌜ (p < from) × (from ≤ length (now page)) × (length (now page) ≤ 1400) × (kind < 10) × Names (now keys) (now letters) × Tables (now odd) (now limits)
+    requires { ⌜ (p < from) × (from ≤ length (now page)) × (length (now page) ≤ pageBytes) × (kind < kindCount) × Names (now keys) (now letters) × Tables (now odd) (now limits)
         × (f ≤ length (now tape)) × (length (now tape) < 65536) × (used ≤ length (now side)) × (length (now side) < aside) ⌝ }
     ensures { λ r. ⌜ ((r .at ≡ 0 → ⊥) → TagIn (now (page .entry)) (kindAt kind) f p from (r .at) (now (tape .entry)) (now (tape .exit)) (now (side .entry)) (now (side .exit)) used (r .used) (r .next) (r .needs)) ⌝ }
 {
@@ -150,16 +150,16 @@ fn take_start(
     i: usize,
     s: usize,
     st: State,
-    keys: &[u64; 52],
+    keys: &[u64; FIELDS],
     letters: &[u8; 1280],
     odd: &[u8; 256],
-    limits: &[u64; 52],
+    limits: &[u64; FIELDS],
     tape: &mut [u16],
     f: usize,
     side: &mut [u8],
     used: usize,
 ) -> Step
-    requires { ⌜ (s ≡ i + until isSpace (drop i (now page))) × (i ≤ s) × (s < length (now page)) × (getD (now page) s 0 ≡ 60) × (length (now page) ≤ 1400) × Sound st × Names (now keys) (now letters)
+    requires { ⌜ (s ≡ i + until isSpace (drop i (now page))) × (i ≤ s) × (s < length (now page)) × (getD (now page) s 0 ≡ 60) × (length (now page) ≤ pageBytes) × Sound st × Names (now keys) (now letters)
         × Tables (now odd) (now limits) × (f ≤ length (now tape)) × (length (now tape) < 65536) × (used ≤ length (now side)) × (length (now side) < aside) ⌝ }
     ensures { λ r. ⌜ ((r .at ≡ 0 → ⊥) → StepIn (now (page .entry)) i (r .at) st (r .st) (now (tape .entry)) (now (tape .exit)) f (r .next) (now (side .entry)) (now (side .exit)) used (r .used)) ⌝ }
 {
@@ -218,7 +218,7 @@ fn take_start(
 
 // The place behind the end tag of the open element whose `<` stands at `s`; 0 if another tag stands there.
 fn end_behind(page: &[u8], s: usize, cur: u8) -> usize
-    requires { ⌜ (s + 1 < length (now page)) × (length (now page) ≤ 1400) × (cur ≡ 0 → ⊥) ⌝ }
+    requires { ⌜ (s + 1 < length (now page)) × (length (now page) ≤ pageBytes) × (cur ≡ 0 → ⊥) ⌝ }
     ensures { λ r. ⌜ ((r ≡ 0 → ⊥) → EndAt (now (page .entry)) s cur r) ⌝ }
 {
     let n = name_behind(page, s + 2, cur);
@@ -235,16 +235,16 @@ fn end_behind(page: &[u8], s: usize, cur: u8) -> usize
 // Passes the start tag of a page's element, which must be MP.
 fn take_root(
     page: &[u8],
-    keys: &[u64; 52],
+    keys: &[u64; FIELDS],
     letters: &[u8; 1280],
     odd: &[u8; 256],
-    limits: &[u64; 52],
+    limits: &[u64; FIELDS],
     tape: &mut [u16],
     first: usize,
     side: &mut [u8],
     used: usize,
 ) -> Step
-    requires { ⌜ (1 ≤ length (now page)) × (length (now page) ≤ 1400) × Names (now keys) (now letters) × Tables (now odd) (now limits)
+    requires { ⌜ (1 ≤ length (now page)) × (length (now page) ≤ pageBytes) × Names (now keys) (now letters) × Tables (now odd) (now limits)
         × (first ≤ length (now tape)) × (length (now tape) < 65536) × (used ≤ length (now side)) × (length (now side) < aside) ⌝ }
     ensures { λ r. ⌜ ((r .at ≡ 0 → ⊥) → On (now (page .entry)) (now (tape .entry)) (now (tape .exit)) (now (side .entry)) (now (side .exit)) used (r .used) first (r .next) (r .at) (r .st)) ⌝ }
 {
@@ -253,7 +253,7 @@ fn take_root(
     if byte_or(page, p) != 60 {
         return no_step(outside);
     }
-    let e = name_behind(page, p + 1, PLAN);
+    let e = name_behind(page, p + 1, MP);
     if e == 0 {
         return no_step(outside);
     }
@@ -261,7 +261,7 @@ fn take_root(
         page,
         p,
         e,
-        PLAN,
+        MP,
         keys,
         letters,
         odd,
@@ -278,7 +278,7 @@ fn take_root(
     if page[x] != 62 {
         return no_step(outside);
     }
-    let st = enter(outside, PLAN, p as u16, NO_FAULT, tag.needs, false);
+    let st = enter(outside, MP, p as u16, NO_FAULT, tag.needs, false);
     Step {
         at: x + 1,
         next: tag.next,
@@ -296,16 +296,16 @@ pub struct Made {
 // Takes a page onto the tape, from `first` on, if it is surely a sheet.
 pub fn take_page(
     page: &[u8],
-    keys: &[u64; 52],
+    keys: &[u64; FIELDS],
     letters: &[u8; 1280],
     odd: &[u8; 256],
-    limits: &[u64; 52],
+    limits: &[u64; FIELDS],
     tape: &mut [u16],
     first: usize,
     side: &mut [u8],
     used: usize,
 ) -> Made
-    requires { ⌜ (1 ≤ length (now page)) × (length (now page) ≤ 1400) × Names (now keys) (now letters) × Tables (now odd) (now limits)
+    requires { ⌜ (1 ≤ length (now page)) × (length (now page) ≤ pageBytes) × Names (now keys) (now letters) × Tables (now odd) (now limits)
         × (first ≤ length (now tape)) × (length (now tape) < 65536) × (used ≤ length (now side)) × (length (now side) < aside) ⌝ }
     ensures { λ r. ⌜ ((r .end ≡ 0 → ⊥) → Makes (now (page .entry)) (now (tape .entry)) (now (tape .exit)) first (r .end) (now (side .entry)) (now (side .exit)) used (r .used)
         × (r .used ≤ used + length (now (page .entry)))) ⌝ }

@@ -6,7 +6,8 @@ ghost use lib.ListN.{length, getD, set, take, drop};
 ghost use Rattle.paper.specs.Lists.{until};
 ghost use Rattle.paper.specs.Bytes.{isSpace};
 ghost use Rattle.paper.specs.Fields.{fieldsOf};
-ghost use Rattle.fields.specs.Places.{kindAt};
+ghost use Rattle.paper.specs.Sizes.{pageBytes};
+ghost use Rattle.fields.specs.Places.{kindAt, kindCount};
 ghost use Rattle.tape.specs.Tape.{aside};
 ghost use Rattle.quick.specs.Letters.{Names};
 ghost use Rattle.quoted.specs.Valued.{Tables};
@@ -18,6 +19,7 @@ use crate::names::count_in;
 use crate::names::field_by;
 use crate::names::first_in;
 use crate::names::letter_place;
+use fields::places::FIELDS;
 use markup::walk::run;
 use quoted::value::take_value;
 use room::byte_or;
@@ -37,8 +39,8 @@ pub struct Taken {
 }
 
 // Reads any name of an attribute that begins at `a`, and what stands before its value.
-fn any_name(page: &[u8], a: usize, kind: u8, keys: &[u64; 52], letters: &[u8; 1280]) -> Named
-    requires { ⌜ (a ≤ length (now page)) × (length (now page) ≤ 1400) × (kind < 10) × Names (now keys) (now letters) ⌝ }
+fn any_name(page: &[u8], a: usize, kind: u8, keys: &[u64; FIELDS], letters: &[u8; 1280]) -> Named
+    requires { ⌜ (a ≤ length (now page)) × (length (now page) ≤ pageBytes) × (kind < kindCount) × Names (now keys) (now letters) ⌝ }
     ensures { λ r. ⌜ ((r .at ≡ 0 → ⊥) → NamedAt (now (page .entry)) (kindAt kind) a (r .field) (r .at) (r .quote)) ⌝ }
 {
     if !is_letter(byte_or(page, a)) {
@@ -82,8 +84,8 @@ fn any_name(page: &[u8], a: usize, kind: u8, keys: &[u64; 52], letters: &[u8; 12
 }
 
 // The same; quickly where the name is one letter, and `=` and a quote follow at once.
-fn take_name(page: &[u8], a: usize, kind: u8, keys: &[u64; 52], letters: &[u8; 1280]) -> Named
-    requires { ⌜ (a ≤ length (now page)) × (length (now page) ≤ 1400) × (kind < 10) × Names (now keys) (now letters) ⌝ }
+fn take_name(page: &[u8], a: usize, kind: u8, keys: &[u64; FIELDS], letters: &[u8; 1280]) -> Named
+    requires { ⌜ (a ≤ length (now page)) × (length (now page) ≤ pageBytes) × (kind < kindCount) × Names (now keys) (now letters) ⌝ }
     ensures { λ r. ⌜ ((r .at ≡ 0 → ⊥) → NamedAt (now (page .entry)) (kindAt kind) a (r .field) (r .at) (r .quote)) ⌝ }
 {
     let j = letter_place(page, a, kind, letters);
@@ -136,16 +138,16 @@ fn take_attr(
     page: &[u8],
     a: usize,
     kind: u8,
-    keys: &[u64; 52],
+    keys: &[u64; FIELDS],
     letters: &[u8; 1280],
     odd: &[u8; 256],
-    limits: &[u64; 52],
+    limits: &[u64; FIELDS],
     tape: &mut [u16],
     base: usize,
     side: &mut [u8],
     used: usize,
 ) -> Taken
-    requires { ⌜ (a ≤ length (now page)) × (length (now page) ≤ 1400) × (kind < 10) × Names (now keys) (now letters) × Tables (now odd) (now limits)
+    requires { ⌜ (a ≤ length (now page)) × (length (now page) ≤ pageBytes) × (kind < kindCount) × Names (now keys) (now letters) × Tables (now odd) (now limits)
         × (base + 2 * length (fieldsOf (kindAt kind)) ≤ length (now tape)) × (length (now tape) < 65536) × (used ≤ length (now side)) × (length (now side) < aside) ⌝ }
     ensures { λ r. ⌜ ((r .at ≡ 0 → ⊥) → AttrIn (now (page .entry)) (kindAt kind) base a (r .at) (now (tape .entry)) (now (tape .exit)) (now (side .entry)) (now (side .exit)) used (r .used)) ⌝ }
 {
@@ -174,16 +176,16 @@ pub fn take_attrs(
     page: &[u8],
     from: usize,
     kind: u8,
-    keys: &[u64; 52],
+    keys: &[u64; FIELDS],
     letters: &[u8; 1280],
     odd: &[u8; 256],
-    limits: &[u64; 52],
+    limits: &[u64; FIELDS],
     tape: &mut [u16],
     base: usize,
     side: &mut [u8],
     used: usize,
 ) -> Taken
-    requires { ⌜ (from ≤ length (now page)) × (length (now page) ≤ 1400) × (kind < 10) × Names (now keys) (now letters) × Tables (now odd) (now limits)
+    requires { ⌜ (from ≤ length (now page)) × (length (now page) ≤ pageBytes) × (kind < kindCount) × Names (now keys) (now letters) × Tables (now odd) (now limits)
         × (base + 2 * length (fieldsOf (kindAt kind)) ≤ length (now tape)) × (length (now tape) < 65536) × (used ≤ length (now side)) × (length (now side) < aside) ⌝ }
     ensures { λ r. ⌜ ((r .at ≡ 0 → ⊥) → InsideIn (now (page .entry)) (kindAt kind) base from (r .at) (now (tape .entry)) (now (tape .exit)) (now (side .entry)) (now (side .exit)) used (r .used)) ⌝ }
 {

@@ -6,6 +6,7 @@ ghost use lib.Dec.{ltb};
 ghost use lib.ListN.{length, getD};
 ghost use Rattle.paper.specs.Lists.{if, count};
 ghost use Rattle.paper.specs.Grammar.{Quote};
+ghost use Rattle.paper.specs.Sizes.{pageBytes};
 ghost use Rattle.quoted.specs.Plain.{oddTable};
 ghost use Rattle.quoted.specs.Coded.{OddAt, CodedAt};
 use crate::ordinary_end;
@@ -51,7 +52,7 @@ fn breaks_of(b: u8) -> usize
 
 // The reference whose `&` stands at `e`.
 fn reference_at(page: &[u8], e: usize) -> Odd
-    requires { ⌜ (e < length (now page)) × (length (now page) ≤ 1400) × (getD (now page) e 0 ≡ 38) ⌝ }
+    requires { ⌜ (e < length (now page)) × (length (now page) ≤ pageBytes) × (getD (now page) e 0 ≡ 38) ⌝ }
     ensures { λ r. ⌜ ((r .next ≡ 0 → ⊥) → OddAt (now (page .entry)) e (r .next) (r .byte)) ⌝ }
 {
     let r = reference_end(page, e + 1);
@@ -67,7 +68,7 @@ fn reference_at(page: &[u8], e: usize) -> Odd
 
 // The odd byte at `e`, or the reference that begins there.
 fn odd_at(page: &[u8], e: usize) -> Odd
-    requires { ⌜ (e < length (now page)) × (length (now page) ≤ 1400) ⌝ }
+    requires { ⌜ (e < length (now page)) × (length (now page) ≤ pageBytes) ⌝ }
     ensures { λ r. ⌜ ((r .next ≡ 0 → ⊥) → OddAt (now (page .entry)) e (r .next) (r .byte)) ⌝ }
 {
     let b = page[e];
@@ -105,7 +106,7 @@ pub fn coded_value(
     side: &mut [u8],
     used: usize,
 ) -> Coded
-    requires { ⌜ (from ≤ length (now page)) × (length (now page) ≤ 1400) × (now odd ≡ oddTable) × Quote q × (used ≤ length (now side)) × (length (now side) < 32768) ⌝ }
+    requires { ⌜ (from ≤ length (now page)) × (length (now page) ≤ pageBytes) × (now odd ≡ oddTable) × Quote q × (used ≤ length (now side)) × (length (now side) < 32768) ⌝ }
     ensures { λ r. ⌜ ((r .quote ≡ 0 → ⊥) → CodedAt (now (page .entry)) (now (side .entry)) (now (side .exit)) from q used (r .quote) (r .end) (r .breaks)) ⌝ }
 {
     let mut i = from;

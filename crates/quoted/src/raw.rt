@@ -5,6 +5,7 @@ ghost use Prim.Native.Nat.{_+_, _≤_};
 ghost use lib.ListN.{length, drop};
 ghost use lib.Seq.{slice};
 ghost use Rattle.paper.specs.Lists.{until};
+ghost use Rattle.paper.specs.Sizes.{pageBytes};
 ghost use Rattle.quoted.specs.Raws.{numeral, rare, RefAt};
 use room::byte_or;
 use room::spells;
@@ -85,7 +86,7 @@ fn reads(page: &[u8], at: usize, to: usize, word: &[u8]) -> bool
 
 // Passes over the reference whose `&` stands before `at`, and returns the place behind its `;`; 0 if it is malformed.
 pub fn reference_end(page: &[u8], at: usize) -> usize
-    requires { ⌜ (at ≤ length (now page)) × (length (now page) ≤ 1400) ⌝ }
+    requires { ⌜ (at ≤ length (now page)) × (length (now page) ≤ pageBytes) ⌝ }
     ensures { λ r. ⌜ ((r ≡ 0 → ⊥) → RefAt (now (page .entry)) at r) ⌝ }
 {
     if byte_or(page, at) == 35 {

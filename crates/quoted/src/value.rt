@@ -8,7 +8,8 @@ ghost use Rattle.paper.specs.Lists.{isEmpty, every, count};
 ghost use Rattle.paper.specs.Bytes.{isDecoded};
 ghost use Rattle.paper.specs.Grammar.{Quote};
 ghost use Rattle.paper.specs.Rules.{settle, keeps};
-ghost use Rattle.fields.specs.Places.{fieldAt};
+ghost use Rattle.paper.specs.Sizes.{pageBytes};
+ghost use Rattle.fields.specs.Places.{fieldAt, fieldCount};
 ghost use Rattle.fields.specs.Columns.{limitColumn};
 ghost use Rattle.tape.specs.Tape.{aside};
 ghost use Rattle.quoted.specs.Valued.{Tables, Valued, Grown};
@@ -17,6 +18,7 @@ use crate::plain_value;
 use fields::dose::is_zero;
 use fields::lookup::rule_in;
 use fields::lookup::tildes_in;
+use fields::places::FIELDS;
 use fields::rules::keeps_form;
 
 // A start on the tape from here on says that the value lies in the side room.
@@ -31,8 +33,8 @@ pub struct Judged {
 }
 
 // Whether the value from `from` to `to` counts as absent in the field at a place of the table: it is empty, or a dose "0".
-fn is_absent(room: &[u8], from: usize, to: usize, id: usize, limits: &[u64; 52]) -> bool
-    requires { ⌜ (from ≤ to) × (to ≤ length (now room)) × (id < 52) × (now limits ≡ limitColumn) ⌝ }
+fn is_absent(room: &[u8], from: usize, to: usize, id: usize, limits: &[u64; FIELDS]) -> bool
+    requires { ⌜ (from ≤ to) × (to ≤ length (now room)) × (id < fieldCount) × (now limits ≡ limitColumn) ⌝ }
     ensures { λ r. ⌜ r ≡ isEmpty (settle (fieldAt id) (slice from to (now (room .entry)))) ⌝ }
 {
     if from == to {
@@ -42,8 +44,8 @@ fn is_absent(room: &[u8], from: usize, to: usize, id: usize, limits: &[u64; 52])
 }
 
 // Whether the value from `at` to `end` keeps the field at a place of the table, if its bytes may stand in a value, and of line breaks it has no more than it may.
-fn keeps_text(room: &[u8], at: usize, end: usize, id: usize, limits: &[u64; 52]) -> bool
-    requires { ⌜ (at ≤ end) × (end ≤ length (now room)) × (id < 52) × (now limits ≡ limitColumn)
+fn keeps_text(room: &[u8], at: usize, end: usize, id: usize, limits: &[u64; FIELDS]) -> bool
+    requires { ⌜ (at ≤ end) × (end ≤ length (now room)) × (id < fieldCount) × (now limits ≡ limitColumn)
         × (every isDecoded (slice at end (now room)) ≡ true) × (count 126 (slice at end (now room)) ≤ fieldAt id .tildes) ⌝ }
     ensures { λ r. ⌜ (r ≡ true → keeps (fieldAt id) (slice at end (now (room .entry))) ≡ true) ⌝ }
 {
@@ -57,11 +59,11 @@ fn odd_value(
     q: u8,
     id: usize,
     odd: &[u8; 256],
-    limits: &[u64; 52],
+    limits: &[u64; FIELDS],
     side: &mut [u8],
     used: usize,
 ) -> Judged
-    requires { ⌜ (0 < at) × (at ≤ length (now page)) × (length (now page) ≤ 1400) × Quote q × (id < 52) × Tables (now odd) (now limits)
+    requires { ⌜ (0 < at) × (at ≤ length (now page)) × (length (now page) ≤ pageBytes) × Quote q × (id < fieldCount) × Tables (now odd) (now limits)
         × (used ≤ length (now side)) × (length (now side) < aside) ⌝ }
     ensures { λ r. ⌜ ((r .quote ≡ 0 → ⊥) → Valued (now (page .entry)) (now (side .exit)) at q id (r .quote) (r .start) (r .end) (r .used)
         × Grown (now (side .entry)) (now (side .exit)) used (r .used) × (r .used + at ≤ used + r .quote)) ⌝ }
@@ -114,11 +116,11 @@ pub fn take_value(
     q: u8,
     id: usize,
     odd: &[u8; 256],
-    limits: &[u64; 52],
+    limits: &[u64; FIELDS],
     side: &mut [u8],
     used: usize,
 ) -> Judged
-    requires { ⌜ (0 < at) × (at ≤ length (now page)) × (length (now page) ≤ 1400) × Quote q × (id < 52) × Tables (now odd) (now limits)
+    requires { ⌜ (0 < at) × (at ≤ length (now page)) × (length (now page) ≤ pageBytes) × Quote q × (id < fieldCount) × Tables (now odd) (now limits)
         × (used ≤ length (now side)) × (length (now side) < aside) ⌝ }
     ensures { λ r. ⌜ ((r .quote ≡ 0 → ⊥) → Valued (now (page .entry)) (now (side .exit)) at q id (r .quote) (r .start) (r .end) (r .used)
         × Grown (now (side .entry)) (now (side .exit)) used (r .used) × (r .used + at ≤ used + r .quote)) ⌝ }

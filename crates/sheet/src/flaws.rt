@@ -9,7 +9,8 @@ ghost use Rattle.paper.specs.Fields.{fieldsOf};
 ghost use Rattle.paper.specs.Grammar.{Attr};
 ghost use Rattle.paper.specs.Rules.{settle};
 ghost use Rattle.paper.specs.Judging.{names, slotsOf, broken, mpVersion};
-ghost use Rattle.fields.specs.Places.{kindAt, ruleAt, fieldAt, fieldFlaw, countOf};
+ghost use Rattle.paper.specs.Sizes.{pageBytes};
+ghost use Rattle.fields.specs.Places.{kindAt, ruleAt, fieldAt, fieldFlaw, countOf, fieldCount, kindCount};
 ghost use Rattle.fields.specs.Columns.{limitColumn};
 ghost use Rattle.sheet.specs.Fold.{flaw, needsW};
 ghost use Rattle.sheet.specs.Found.{rawAt, told, Tells};
@@ -21,14 +22,12 @@ use fields::lookup::pair_one;
 use fields::lookup::pair_other;
 use fields::lookup::pairs_of;
 use fields::lookup::rule_in;
+use fields::places::FIELDS;
+use fields::places::M;
+use fields::places::MP;
 use fields::rules::value_flaw;
 use markup::values::decode;
 use room::spells;
-
-// The numbers of the elements MP and M.
-const PLAN: u8 = 1;
-
-const MEDICATION: u8 = 6;
 
 // The places of v, a and z among MP's fields.
 const EDITION: usize = 0;
@@ -95,10 +94,10 @@ fn field_flaw(
     raws: &[u16],
     j: usize,
     id: usize,
-    limits: &[u64; 52],
+    limits: &[u64; FIELDS],
     scratch: &mut [u8],
 ) -> u8
-    requires { ⌜ (length (now page) ≤ length (now scratch)) × (2 * j + 1 < length (now raws)) × (id < 52) × (now limits ≡ limitColumn) ⌝ }
+    requires { ⌜ (length (now page) ≤ length (now scratch)) × (2 * j + 1 < length (now raws)) × (id < fieldCount) × (now limits ≡ limitColumn) ⌝ }
     ensures { λ r. ⌜ r ≡ fieldFlaw (fieldAt id) (settle (fieldAt id) (value (rawAt (now (page .entry)) (now (raws .entry)) j))) ⌝ }
 {
     let n = settled_len(page, raws, j, rule_in(limits, id), scratch);
@@ -106,8 +105,14 @@ fn field_flaw(
 }
 
 // The least fault of an element's fields: 7 if some value breaks its field, else 8 if one that must be present is missing, else 9.
-fn fields_flaw(page: &[u8], kind: u8, raws: &[u16], limits: &[u64; 52], scratch: &mut [u8]) -> u8
-    requires { ⌜ (length (now page) ≤ length (now scratch)) × (kind < 10) × (2 * countOf (kindAt kind) ≤ length (now raws)) × (now limits ≡ limitColumn) ⌝ }
+fn fields_flaw(
+    page: &[u8],
+    kind: u8,
+    raws: &[u16],
+    limits: &[u64; FIELDS],
+    scratch: &mut [u8],
+) -> u8
+    requires { ⌜ (length (now page) ≤ length (now scratch)) × (kind < kindCount) × (2 * countOf (kindAt kind) ≤ length (now raws)) × (now limits ≡ limitColumn) ⌝ }
     ensures { λ r. ⌜ r ≡ fieldsFlaw 9 (fieldsOf (kindAt kind)) (told (now (page .entry)) (kindAt kind) (now (raws .entry))) ⌝ }
 {
     let first = first_of(kind);
@@ -132,10 +137,10 @@ fn fields_flaw(page: &[u8], kind: u8, raws: &[u16], limits: &[u64; 52], scratch:
 
 // Whether an element is MP and its v is not the edition 027.
 fn edition_differs(page: &[u8], kind: u8, raws: &[u16], scratch: &mut [u8]) -> bool
-    requires { ⌜ (length (now page) ≤ length (now scratch)) × (kind < 10) × (2 * countOf (kindAt kind) ≤ length (now raws)) ⌝ }
+    requires { ⌜ (length (now page) ≤ length (now scratch)) × (kind < kindCount) × (2 * countOf (kindAt kind) ≤ length (now raws)) ⌝ }
     ensures { λ r. ⌜ r ≡ mpVersion (kindAt kind) (told (now (page .entry)) (kindAt kind) (now (raws .entry))) ⌝ }
 {
-    if kind != PLAN {
+    if kind != MP {
         return false;
     }
     let n = value_len(page, raws, EDITION, scratch);
@@ -166,10 +171,10 @@ pub fn digits_flaw(a: u8, z: u8) -> u8
 
 // The fault of MP's a and z, where each keeps its field: 7 if a is above z, 8 if one stands without the other, else 9.
 fn pages_flaw(page: &[u8], kind: u8, raws: &[u16], scratch: &mut [u8]) -> u8
-    requires { ⌜ (length (now page) ≤ length (now scratch)) × (kind < 10) × (2 * countOf (kindAt kind) ≤ length (now raws)) × (broken (fieldsOf (kindAt kind)) (told (now page) (kindAt kind) (now raws)) ≡ false) ⌝ }
+    requires { ⌜ (length (now page) ≤ length (now scratch)) × (kind < kindCount) × (2 * countOf (kindAt kind) ≤ length (now raws)) × (broken (fieldsOf (kindAt kind)) (told (now page) (kindAt kind) (now raws)) ≡ false) ⌝ }
     ensures { λ r. ⌜ r ≡ pagesFlaw (kindAt kind) (told (now (page .entry)) (kindAt kind) (now (raws .entry))) ⌝ }
 {
-    if kind != PLAN {
+    if kind != MP {
         return 9;
     }
     let a = first_byte(page, raws, NUMBER, scratch);
@@ -180,7 +185,7 @@ fn pages_flaw(page: &[u8], kind: u8, raws: &[u16], scratch: &mut [u8]) -> u8
 // Whether two fields of an element that exclude each other stand in its tag, empty or not, by numbers from `base` on, two to a field: the first is 0 where the
 // attribute is not there.
 pub fn clashes(kind: u8, numbers: &[u16], base: usize) -> bool
-    requires { ⌜ (kind < 10) × (base + 2 * countOf (kindAt kind) ≤ length (now numbers)) ⌝ }
+    requires { ⌜ (kind < kindCount) × (base + 2 * countOf (kindAt kind) ≤ length (now numbers)) ⌝ }
     ensures { λ r. ⌜ r ≡ clashAt (kindAt kind) (now (numbers .entry)) base ⌝ }
 {
     let pairs = pairs_of(kind);
@@ -204,8 +209,14 @@ pub fn clashes(kind: u8, numbers: &[u16], base: usize) -> bool
 
 // The least of 6, 7 and 8 that a tag's own values give, 9 if none, with the limits of the table handed down by a caller that copies them once. `scratch` is room
 // for one value; what it then holds is of no meaning.
-pub fn flaw_of(page: &[u8], kind: u8, raws: &[u16], limits: &[u64; 52], scratch: &mut [u8]) -> u8
-    requires { ⌜ (length (now page) ≤ length (now scratch)) × (kind < 10) × (2 * countOf (kindAt kind) ≤ length (now raws)) × (now limits ≡ limitColumn) ⌝ }
+pub fn flaw_of(
+    page: &[u8],
+    kind: u8,
+    raws: &[u16],
+    limits: &[u64; FIELDS],
+    scratch: &mut [u8],
+) -> u8
+    requires { ⌜ (length (now page) ≤ length (now scratch)) × (kind < kindCount) × (2 * countOf (kindAt kind) ≤ length (now raws)) × (now limits ≡ limitColumn) ⌝ }
     ensures { λ r. ⌜ ((l : List Attr) → Tells (now (page .entry)) (kindAt kind) (now (raws .entry)) l → r ≡ flaw (kindAt kind) (names l) (slotsOf (fieldsOf (kindAt kind)) l)) ⌝ }
 {
     if edition_differs(page, kind, raws, scratch) {
@@ -230,10 +241,10 @@ pub fn flaw_of(page: &[u8], kind: u8, raws: &[u16], limits: &[u64; 52], scratch:
 
 // Whether an element with these values is an M that has neither p nor a.
 pub fn needs_w(page: &[u8], kind: u8, raws: &[u16], scratch: &mut [u8]) -> bool
-    requires { ⌜ (length (now page) ≤ 1400) × (length (now page) ≤ length (now scratch)) × (kind < 10) × (2 * countOf (kindAt kind) ≤ length (now raws)) ⌝ }
+    requires { ⌜ (length (now page) ≤ pageBytes) × (length (now page) ≤ length (now scratch)) × (kind < kindCount) × (2 * countOf (kindAt kind) ≤ length (now raws)) ⌝ }
     ensures { λ r. ⌜ ((l : List Attr) → Tells (now (page .entry)) (kindAt kind) (now (raws .entry)) l → r ≡ needsW (kindAt kind) (slotsOf (fieldsOf (kindAt kind)) l)) ⌝ }
 {
-    if kind != MEDICATION {
+    if kind != M {
         return false;
     }
     if value_len(page, raws, PACKAGE, scratch) != 0 {

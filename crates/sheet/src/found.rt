@@ -4,13 +4,15 @@ ghost use mathlib.Core.Bool.{false};
 ghost use Prim.Native.Nat.{_*_, _≤_, _<_};
 ghost use lib.ListN.{length};
 ghost use Rattle.paper.specs.Judging.{names};
+ghost use Rattle.paper.specs.Sizes.{pageBytes};
 ghost use Rattle.markup.specs.Walk.{insideAt};
-ghost use Rattle.fields.specs.Places.{kindAt, countOf};
+ghost use Rattle.fields.specs.Places.{kindAt, countOf, kindCount};
 ghost use Rattle.fields.specs.Columns.{keyColumn};
 ghost use Rattle.sheet.specs.Fold.{strange};
 ghost use Rattle.sheet.specs.Found.{Tells};
 use fields::lookup::count_of;
 use fields::lookup::field_in;
+use fields::places::FIELDS;
 use markup::walk::Piece;
 use markup::walk::next_attr;
 use room::clear;
@@ -24,8 +26,8 @@ pub struct Found {
 // Reads the attributes of a start tag of an element of that kind from `at` on, up to the tag's end or to the first attribute that is unknown or
 // stands twice. The raw values, the bytes between the quotes, are told in `raws`, two numbers to a field in the table's order: where it starts in
 // the page and where it ends. No value starts at 0: there are 0 and 0 where the attribute is not there.
-pub fn find(page: &[u8], at: usize, kind: u8, keys: &[u64; 52], raws: &mut [u16]) -> Found
-    requires { ⌜ (at ≤ length (now page)) × (length (now page) ≤ 1400) × (kind < 10) × (now keys ≡ keyColumn) × (2 * countOf (kindAt kind) ≤ length (now raws)) ⌝ }
+pub fn find(page: &[u8], at: usize, kind: u8, keys: &[u64; FIELDS], raws: &mut [u16]) -> Found
+    requires { ⌜ (at ≤ length (now page)) × (length (now page) ≤ pageBytes) × (kind < kindCount) × (now keys ≡ keyColumn) × (2 * countOf (kindAt kind) ≤ length (now raws)) ⌝ }
     ensures { λ r. ⌜ (r .strange ≡ strange (kindAt kind) (names (insideAt (now (page .entry)) at .attrs)))
         × (r .strange ≡ false → (r .shut ≡ insideAt (now (page .entry)) at .shut) × Tells (now (page .entry)) (kindAt kind) (now (raws .exit)) (insideAt (now (page .entry)) at .attrs)) ⌝ }
 {

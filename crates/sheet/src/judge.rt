@@ -3,6 +3,7 @@ ghost use mathlib.Core.Path.{_≡_};
 ghost use Prim.Native.Nat.{_≤_};
 ghost use lib.ListN.{length};
 ghost use Rattle.paper.specs.Judging.{judge};
+ghost use Rattle.paper.specs.Sizes.{pageBytes};
 ghost use Rattle.markup.specs.Walk.{tagsAt};
 ghost use Rattle.sheet.specs.Fold.{foldPage};
 ghost use Rattle.sheet.specs.Judged.{faultOf, verdictBy, verdictOf};
@@ -50,7 +51,7 @@ fn told(f: Refusal) -> Verdict
 // The answer for the tags of a page. The first element or attribute that has no place ends it: no refusal of tags is lower, and places go up.
 // `scratch` is room for one value; what it then holds is of no meaning.
 pub fn faults_of(page: &[u8], scratch: &mut [u8]) -> Verdict
-    requires { ⌜ (length (now page) ≤ 1400) × (1400 ≤ length (now scratch)) ⌝ }
+    requires { ⌜ (length (now page) ≤ pageBytes) × (pageBytes ≤ length (now scratch)) ⌝ }
     ensures { λ r. ⌜ r ≡ verdictBy (foldPage (tagsAt (now (page .entry)) 0)) ⌝ }
 {
     let keys = keys();
@@ -96,7 +97,7 @@ pub fn faults_of(page: &[u8], scratch: &mut [u8]) -> Verdict
 // The answer for any bytes: empty or above 1,400 (2), a byte that is not allowed (3), malformed (4), else the least fault of its tags.
 // `scratch` is room for one value; what it then holds is of no meaning.
 pub fn judge_page(page: &[u8], scratch: &mut [u8]) -> Verdict
-    requires { ⌜ 1400 ≤ length (now scratch) ⌝ }
+    requires { ⌜ pageBytes ≤ length (now scratch) ⌝ }
     ensures { λ r. ⌜ r ≡ verdictOf (judge (now (page .entry))) ⌝ }
 {
     let n = page.len();

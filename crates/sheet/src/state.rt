@@ -8,25 +8,17 @@ ghost use Rattle.paper.specs.Lists.{if};
 ghost use Rattle.paper.specs.Fields.{code, rankOf, fieldsOf};
 ghost use Rattle.paper.specs.Grammar.{Attr};
 ghost use Rattle.paper.specs.Judging.{names, slotsOf, lower};
-ghost use Rattle.fields.specs.Places.{kindAt};
+ghost use Rattle.fields.specs.Places.{kindAt, kindCount};
 ghost use Rattle.sheet.specs.Fold.{outside, kindUnder, parent, barred, flaw, needsW, opened, closed, finished};
 ghost use Rattle.sheet.specs.Judged.{faultOf, stOf, Sound, left};
 use fields::lookup::child;
-
-// The numbers of the elements that the state looks at.
-const MP: u8 = 1;
-
-const P: u8 = 2;
-
-const A: u8 = 3;
-
-const O: u8 = 4;
-
-const S: u8 = 5;
-
-const M: u8 = 6;
-
-const W: u8 = 7;
+use fields::places::A;
+use fields::places::M;
+use fields::places::MP;
+use fields::places::O;
+use fields::places::P;
+use fields::places::S;
+use fields::places::W;
 
 // Outside of all elements, as the table of fields counts.
 const OUTERMOST: u8 = 10;
@@ -109,7 +101,7 @@ pub fn kind_under(cur: u8, name: &[u8]) -> u8
 
 // Whether an element is unknown, misplaced or one too many.
 pub fn bars(st: State, kind: u8) -> bool
-    requires { ⌜ kind < 10 ⌝ }
+    requires { ⌜ kind < kindCount ⌝ }
     ensures { λ r. ⌜ r ≡ barred (stOf st) (kindAt kind) ⌝ }
 {
     if kind == 0 {
@@ -132,7 +124,7 @@ pub fn bars(st: State, kind: u8) -> bool
 
 // The latest element in MP behind the start tag of an element.
 fn rank_with(rank: u8, kind: u8) -> u8
-    requires { ⌜ kind < 10 ⌝ }
+    requires { ⌜ kind < kindCount ⌝ }
     ensures { λ r. ⌜ r ≡ if (eqb (rankOf (kindAt kind)) 0) rank (rankOf (kindAt kind)) ⌝ }
 {
     if kind < P {
@@ -180,7 +172,7 @@ fn place_with(kind: u8, wanted: u8, place: u16, before: u16) -> u16
 
 // The state behind the start tag of an element that may stand there, whose own values give the refusal `number`, 9 if none, and which needs a W or not.
 fn open(st: State, kind: u8, place: u16, number: u8, needs: bool) -> State
-    requires { ⌜ (kind < 10) × Sound st × (barred (stOf st) (kindAt kind) ≡ false) ⌝ }
+    requires { ⌜ (kind < kindCount) × Sound st × (barred (stOf st) (kindAt kind) ≡ false) ⌝ }
     ensures { λ r. ⌜ ((l : List Attr) → number ≡ flaw (kindAt kind) (names l) (slotsOf (fieldsOf (kindAt kind)) l)
         → needs ≡ needsW (kindAt kind) (slotsOf (fieldsOf (kindAt kind)) l) → stOf r ≡ opened (stOf st) (kindAt kind) place l) × Sound r ⌝ }
 {
@@ -212,7 +204,7 @@ fn open(st: State, kind: u8, place: u16, number: u8, needs: bool) -> State
 
 // The element around an element.
 fn parent_of(kind: u8) -> u8
-    requires { ⌜ kind < 10 ⌝ }
+    requires { ⌜ kind < kindCount ⌝ }
     ensures { λ r. ⌜ (r ≡ parent kind) × (r < 10) ⌝ }
 {
     if kind <= MP {
@@ -265,7 +257,7 @@ pub fn close(st: State) -> State
 
 // The state behind a start tag, and behind the element's end if the tag closes itself.
 pub fn enter(st: State, kind: u8, place: u16, number: u8, needs: bool, shut: bool) -> State
-    requires { ⌜ (kind < 10) × Sound st × (barred (stOf st) (kindAt kind) ≡ false) ⌝ }
+    requires { ⌜ (kind < kindCount) × Sound st × (barred (stOf st) (kindAt kind) ≡ false) ⌝ }
     ensures { λ r. ⌜ ((l : List Attr) → number ≡ flaw (kindAt kind) (names l) (slotsOf (fieldsOf (kindAt kind)) l)
         → needs ≡ needsW (kindAt kind) (slotsOf (fieldsOf (kindAt kind)) l) → stOf r ≡ left shut (opened (stOf st) (kindAt kind) place l)) × Sound r ⌝ }
 {

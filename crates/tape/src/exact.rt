@@ -3,7 +3,8 @@ ghost use mathlib.Core.Path.{_≡_};
 ghost use Prim.Native.Nat.{_+_, _*_, _≤_, _<_};
 ghost use lib.ListN.{length};
 ghost use Rattle.paper.specs.Lists.{concat};
-ghost use Rattle.fields.specs.Places.{kindAt, countOf};
+ghost use Rattle.paper.specs.Sizes.{pageBytes};
+ghost use Rattle.fields.specs.Places.{kindAt, countOf, kindCount};
 ghost use Rattle.fields.specs.Columns.{keyColumn};
 ghost use Rattle.sheet.specs.Found.{Lie, told};
 ghost use Rattle.tape.specs.Tape.{elem, header, aside, Makes};
@@ -12,6 +13,7 @@ ghost use Rattle.tape.specs.Making.{IsSheet, LaysElem};
 use crate::names::kind_named;
 use crate::values::lay_slots;
 use fields::lookup::count_of;
+use fields::places::FIELDS;
 use fields::table::RAWS;
 use markup::walk::Mark;
 use markup::walk::next_tag;
@@ -34,7 +36,7 @@ fn lay_elem(
     side: &mut [u8],
     used: usize,
 ) -> Made
-    requires { ⌜ (length (now page) ≤ 1400) × (kind < 10) × (place ≤ length (now page))
+    requires { ⌜ (length (now page) ≤ pageBytes) × (kind < kindCount) × (place ≤ length (now page))
         × (2 * countOf (kindAt kind) ≤ length (now raws)) × Lie (now page) (countOf (kindAt kind)) (now raws)
         × (first + header + 2 * countOf (kindAt kind) ≤ length (now tape)) × (length (now tape) < 65536)
         × (used + length (concat (told (now page) (kindAt kind) (now raws))) ≤ length (now side)) × (length (now side) < aside) ⌝ }
@@ -53,7 +55,7 @@ fn lay_elem(
 // `fields::lookup::keys()`.
 pub fn lay_page(
     page: &[u8],
-    keys: &[u64; 52],
+    keys: &[u64; FIELDS],
     tape: &mut [u16],
     first: usize,
     side: &mut [u8],

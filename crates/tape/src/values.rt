@@ -5,8 +5,9 @@ ghost use Prim.Native.Nat.{_+_, _*_, _≤_, _<_};
 ghost use lib.ListN.{length};
 ghost use lib.Seq.{slice};
 ghost use Rattle.paper.specs.Lists.{concat};
+ghost use Rattle.paper.specs.Sizes.{pageBytes};
 ghost use Rattle.room.specs.Laid.{laid};
-ghost use Rattle.fields.specs.Places.{kindAt, countOf};
+ghost use Rattle.fields.specs.Places.{kindAt, countOf, fieldCount, kindCount};
 ghost use Rattle.sheet.specs.Found.{Lie, told};
 ghost use Rattle.tape.specs.Making.{settled, LaysSlots};
 ghost use Rattle.tape.specs.Tape.{aside};
@@ -15,6 +16,7 @@ use fields::lookup::count_of;
 use fields::lookup::first_of;
 use fields::lookup::rule_of;
 use markup::values::decode;
+use plan::Plan;
 use room::lay;
 
 // A start from here on says that the value lies in the side room.
@@ -23,12 +25,12 @@ const ASIDE: u16 = 32768;
 // Lays the value that counts of a field into the room from `n` on, and returns the place behind it: a dose that is exactly "0" is absent. It is decoded
 // elsewhere first, so that no other byte of the room changes.
 fn lay_value(page: &[u8], from: usize, to: usize, id: usize, room: &mut [u8], n: usize) -> usize
-    requires { ⌜ (from ≤ to) × (to ≤ length (now page)) × (length (now page) ≤ 1400) × (id < 52)
+    requires { ⌜ (from ≤ to) × (to ≤ length (now page)) × (length (now page) ≤ pageBytes) × (id < fieldCount)
         × (n + length (settled id (slice from to (now page))) ≤ length (now room)) ⌝ }
     ensures { λ r. ⌜ (r ≡ n + length (settled id (slice from to (now (page .entry)))))
         × (now (room .exit) ≡ laid (now (room .entry)) n (settled id (slice from to (now (page .entry))))) ⌝ }
 {
-    let mut scratch = [0u8; 1400];
+    let mut scratch = [0u8; Plan::PAGE];
     let k = decode(page, from, to, &mut scratch, 0);
     let rule = rule_of(id);
     if is_zero(rule, &scratch[..k]) {
@@ -50,7 +52,7 @@ fn lay_slot(
     side: &mut [u8],
     used: usize,
 ) -> usize
-    requires { ⌜ (from ≤ to) × (to ≤ length (now page)) × (length (now page) ≤ 1400) × (id < 52) × (at + 2 ≤ length (now tape))
+    requires { ⌜ (from ≤ to) × (to ≤ length (now page)) × (length (now page) ≤ pageBytes) × (id < fieldCount) × (at + 2 ≤ length (now tape))
         × (used + length (settled id (slice from to (now page))) ≤ length (now side)) × (length (now side) < aside) ⌝ }
     ensures { λ r. ⌜ LaysSlots (now (page .entry)) (settled id (slice from to (now (page .entry))) ∷ [])
         (now (tape .entry)) (now (tape .exit)) at (now (side .entry)) (now (side .exit)) used r ⌝ }
@@ -77,7 +79,7 @@ pub fn lay_slots(
     side: &mut [u8],
     used: usize,
 ) -> usize
-    requires { ⌜ (length (now page) ≤ 1400) × (kind < 10)
+    requires { ⌜ (length (now page) ≤ pageBytes) × (kind < kindCount)
         × (2 * countOf (kindAt kind) ≤ length (now raws)) × Lie (now page) (countOf (kindAt kind)) (now raws) × (at + 2 * countOf (kindAt kind) ≤ length (now tape))
         × (used + length (concat (told (now page) (kindAt kind) (now raws))) ≤ length (now side)) × (length (now side) < aside) ⌝ }
     ensures { λ r. ⌜ LaysSlots (now (page .entry)) (told (now (page .entry)) (kindAt kind) (now (raws .entry)))
