@@ -33,9 +33,9 @@ entry k b = getD letterTable (k * 128 + b) 0
 
 -- the row of an element: how many fields it has, where they begin, and the fields of one letter
 right : ℕ → ℕ → Bool
-right k b = if (eqb b 0) (eqb (entry k b) (16 + countOf (kindAt k)))
-    (if (eqb b 1) (eqb (entry k b) (16 + firstOf (kindAt k)))
-    (if (ltb (entry k b) 16) (isLetter b && (eqb (entry k b) (placeIn (b ∷ []) (fieldsOf (kindAt k))) && ltb (entry k b) (length (fieldsOf (kindAt k))))) true))
+right k b = if (eqb b 0) (eqb (entry k b) (128 + countOf (kindAt k)))
+    (if (eqb b 1) (eqb (entry k b) (128 + firstOf (kindAt k)))
+    (if (ltb (entry k b) 128) (isLetter b && (eqb (entry k b) (placeIn (b ∷ []) (fieldsOf (kindAt k))) && ltb (entry k b) (length (fieldsOf (kindAt k))))) true))
 
 rows : below 10 (λ (k : ℕ). below 128 (right k)) ≡ true
 unfolding letterTable right kindAt countOf firstOf fieldsOf
@@ -49,48 +49,48 @@ pub entry-low : (n : ℕ) → Fits w64 (getD letterTable n 0)
 unfolding letterTable
 entry-low n = fits-entry letterTable n refl
 
-pub count-entry : (k : ℕ) → k < 10 → getD letterTable (k * 128) 0 ≡ 16 + countOf (kindAt k)
+pub count-entry : (k : ℕ) → k < 10 → getD letterTable (k * 128) 0 ≡ 128 + countOf (kindAt k)
 unfolding right
 count-entry k h =
     let z : k * 128 + 0 ≡ k * 128 = omega arith in
-    ap (λ (n : ℕ). getD letterTable n 0) (sym z) ∙ eqb-true (entry k 0) (16 + countOf (kindAt k)) (row-at k 0 h (omega arith))
+    ap (λ (n : ℕ). getD letterTable n 0) (sym z) ∙ eqb-true (entry k 0) (128 + countOf (kindAt k)) (row-at k 0 h (omega arith))
 
-pub first-entry : (k : ℕ) → k < 10 → getD letterTable (k * 128 + 1) 0 ≡ 16 + firstOf (kindAt k)
+pub first-entry : (k : ℕ) → k < 10 → getD letterTable (k * 128 + 1) 0 ≡ 128 + firstOf (kindAt k)
 unfolding right
-first-entry k h = eqb-true (entry k 1) (16 + firstOf (kindAt k)) (row-at k 1 h (omega arith))
+first-entry k h = eqb-true (entry k 1) (128 + firstOf (kindAt k)) (row-at k 1 h (omega arith))
 
 -- an entry that is a place is that of the field whose name is the letter
-pub letter-entry : (k b : ℕ) → k < 10 → b < 128 → getD letterTable (k * 128 + b) 0 < 16
+pub letter-entry : (k b : ℕ) → k < 10 → b < 128 → getD letterTable (k * 128 + b) 0 < 128
     → (isLetter b ≡ true) × (getD letterTable (k * 128 + b) 0 ≡ placeIn (b ∷ []) (fieldsOf (kindAt k))) × (getD letterTable (k * 128 + b) 0 < length (fieldsOf (kindAt k)))
 unfolding right
 letter-entry k b h l s = zero (eqb b 0) refl (row-at k b h l)
   where
-    letter : if (ltb (entry k b) 16) (isLetter b && (eqb (entry k b) (placeIn (b ∷ []) (fieldsOf (kindAt k))) && ltb (entry k b) (length (fieldsOf (kindAt k))))) true ≡ true
+    letter : if (ltb (entry k b) 128) (isLetter b && (eqb (entry k b) (placeIn (b ∷ []) (fieldsOf (kindAt k))) && ltb (entry k b) (length (fieldsOf (kindAt k))))) true ≡ true
         → (isLetter b ≡ true) × (entry k b ≡ placeIn (b ∷ []) (fieldsOf (kindAt k))) × (entry k b < length (fieldsOf (kindAt k)))
     letter e =
-        let e′ : isLetter b && (eqb (entry k b) (placeIn (b ∷ []) (fieldsOf (kindAt k))) && ltb (entry k b) (length (fieldsOf (kindAt k)))) ≡ true = rw (lt-ltb (entry k b) 16 s) at e in
+        let e′ : isLetter b && (eqb (entry k b) (placeIn (b ∷ []) (fieldsOf (kindAt k))) && ltb (entry k b) (length (fieldsOf (kindAt k)))) ≡ true = rw (lt-ltb (entry k b) 128 s) at e in
         let x = both (isLetter b) _ e′ in
         let y = both (eqb (entry k b) (placeIn (b ∷ []) (fieldsOf (kindAt k)))) _ (x .1) in
         (x .0, eqb-true _ _ (y .0), ltb-true _ _ (y .1))
 
     one : (t : Bool) → eqb b 1 ≡ t
-        → if t (eqb (entry k b) (16 + firstOf (kindAt k))) (if (ltb (entry k b) 16) (isLetter b && (eqb (entry k b) (placeIn (b ∷ []) (fieldsOf (kindAt k))) && ltb (entry k b) (length (fieldsOf (kindAt k))))) true) ≡ true
+        → if t (eqb (entry k b) (128 + firstOf (kindAt k))) (if (ltb (entry k b) 128) (isLetter b && (eqb (entry k b) (placeIn (b ∷ []) (fieldsOf (kindAt k))) && ltb (entry k b) (length (fieldsOf (kindAt k))))) true) ≡ true
         → (isLetter b ≡ true) × (entry k b ≡ placeIn (b ∷ []) (fieldsOf (kindAt k))) × (entry k b < length (fieldsOf (kindAt k)))
-    one true q e = let z = eqb-true (entry k b) (16 + firstOf (kindAt k)) e in absurd (omega (arith, z, s))
+    one true q e = let z = eqb-true (entry k b) (128 + firstOf (kindAt k)) e in absurd (omega (arith, z, s))
     one false q e = letter e
 
     zero : (t : Bool) → eqb b 0 ≡ t
-        → if t (eqb (entry k b) (16 + countOf (kindAt k))) (if (eqb b 1) (eqb (entry k b) (16 + firstOf (kindAt k))) (if (ltb (entry k b) 16) (isLetter b && (eqb (entry k b) (placeIn (b ∷ []) (fieldsOf (kindAt k))) && ltb (entry k b) (length (fieldsOf (kindAt k))))) true)) ≡ true
+        → if t (eqb (entry k b) (128 + countOf (kindAt k))) (if (eqb b 1) (eqb (entry k b) (128 + firstOf (kindAt k))) (if (ltb (entry k b) 128) (isLetter b && (eqb (entry k b) (placeIn (b ∷ []) (fieldsOf (kindAt k))) && ltb (entry k b) (length (fieldsOf (kindAt k))))) true)) ≡ true
         → (isLetter b ≡ true) × (entry k b ≡ placeIn (b ∷ []) (fieldsOf (kindAt k))) × (entry k b < length (fieldsOf (kindAt k)))
-    zero true q e = let z = eqb-true (entry k b) (16 + countOf (kindAt k)) e in absurd (omega (arith, z, s))
+    zero true q e = let z = eqb-true (entry k b) (128 + countOf (kindAt k)) e in absurd (omega (arith, z, s))
     zero false q e = one (eqb b 1) refl e
 
 -- ---- an attribute of one letter
 
 pub letter-found : (w : List ℕ) (k a b : ℕ) (t : List ℕ) → k < 10 → t ≡ letterTable → b ≡ getD w a 0 → getD w (a + 1) 0 ≡ 61 → Quote (getD w (a + 2) 0) → b < 128
-    → getD t (k * 128 + b) 0 < 16 → LetterAt w (kindAt k) a (getD t (k * 128 + b) 0)
+    → getD t (k * 128 + b) 0 < 128 → LetterAt w (kindAt k) a (getD t (k * 128 + b) 0)
 letter-found w k a b t h e q eq qu l s =
-    let s′ : getD letterTable (k * 128 + b) 0 < 16 = rw e at s in
+    let s′ : getD letterTable (k * 128 + b) 0 < 128 = rw e at s in
     let x = letter-entry k b h l s′ in
     record { letter = rw q at (x .0); equals = eq; quoted = qu; field = rw (e, ← q) (x .1); known = rw e (x .2) }
 

@@ -17,7 +17,7 @@ use room::byte_or;
 const ROW: usize = 128;
 
 // From here on a number of the table is no place of a field.
-pub const NO_PLACE: usize = 16;
+pub const NO_PLACE: usize = 128;
 
 // The table, for a caller that copies it once.
 pub fn letter_table() -> [u8; 1280]
@@ -52,10 +52,10 @@ pub fn field_by(keys: &[u64], letters: &[u8; 1280], kind: u8, name: &[u8]) -> us
     find(keys, first, first + count, key(name))
 }
 
-// The place among an element's fields of the one whose name is the letter at `a`, if `=` and a quote follow at once; else 16 or more.
+// The place among an element's fields of the one whose name is the letter at `a`, if `=` and a quote follow at once; else 128 or more.
 pub fn letter_place(page: &[u8], a: usize, kind: u8, letters: &[u8; 1280]) -> usize
     requires { ⌜ (a ≤ length (now page)) × (length (now page) ≤ pageBytes) × (kind < kindCount) × (now letters ≡ letterTable) ⌝ }
-    ensures { λ r. ⌜ (r < 16 → LetterAt (now (page .entry)) (kindAt kind) a r) ⌝ }
+    ensures { λ r. ⌜ (r < 128 → LetterAt (now (page .entry)) (kindAt kind) a r) ⌝ }
 {
     if byte_or(page, a + 1) != 61 {
         return NO_PLACE;

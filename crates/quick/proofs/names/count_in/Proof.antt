@@ -22,12 +22,12 @@ cast-result : tie.Need-cast-result
 cast-result c = let S = (c .before) in rw (S .pre .1) (entry-low _)
 
 sub-result : tie.Need-sub-result
-sub-result c = let S = (c .before) in let e : getD (S .args .letters .now) (S .args .kind * 128) 0 ≡ 16 + countOf (kindAt (S .args .kind)) = rw (S .pre .1) (count-entry (S .args .kind) (S .pre .0)) in omega (arith, e)
+sub-result c = let S = (c .before) in let e : getD (S .args .letters .now) (S .args .kind * 128) 0 ≡ 128 + countOf (kindAt (S .args .kind)) = rw (S .pre .1) (count-entry (S .args .kind) (S .pre .0)) in omega (arith, e)
 
 returns : tie.Need-returns
 returns c =
     let S = (c .before) in
-    let e : getD (S .args .letters .now) (S .args .kind * 128) 0 ≡ 16 + countOf (kindAt (S .args .kind)) = rw (S .pre .1) (count-entry (S .args .kind) (S .pre .0)) in
+    let e : getD (S .args .letters .now) (S .args .kind * 128) 0 ≡ 128 + countOf (kindAt (S .args .kind)) = rw (S .pre .1) (count-entry (S .args .kind) (S .pre .0)) in
     let w = part-within (S .args .kind) (S .pre .0) in
     (omega (arith, e), omega (arith, e, w))
 

@@ -24,12 +24,12 @@ cast-result : tie.Need-cast-result
 cast-result c = let S = (c .before) in rw (S .pre .1) (entry-low _)
 
 sub-result : tie.Need-sub-result
-sub-result c = let S = (c .before) in let e : getD (S .args .letters .now) (S .args .kind * 128 + 1) 0 ≡ 16 + firstOf (kindAt (S .args .kind)) = rw (S .pre .1) (first-entry (S .args .kind) (S .pre .0)) in omega (arith, e)
+sub-result c = let S = (c .before) in let e : getD (S .args .letters .now) (S .args .kind * 128 + 1) 0 ≡ 128 + firstOf (kindAt (S .args .kind)) = rw (S .pre .1) (first-entry (S .args .kind) (S .pre .0)) in omega (arith, e)
 
 returns : tie.Need-returns
 returns c =
     let S = (c .before) in
-    let e : getD (S .args .letters .now) (S .args .kind * 128 + 1) 0 ≡ 16 + firstOf (kindAt (S .args .kind)) = rw (S .pre .1) (first-entry (S .args .kind) (S .pre .0)) in
+    let e : getD (S .args .letters .now) (S .args .kind * 128 + 1) 0 ≡ 128 + firstOf (kindAt (S .args .kind)) = rw (S .pre .1) (first-entry (S .args .kind) (S .pre .0)) in
     omega (arith, e)
 
 pub first-in-spec : {M : Type 1} → statement M
