@@ -12,22 +12,20 @@ use borrow.Author.Tests.{ne-eqb, eq-eqb, eqb-true, eqb-false, ltb-true, ltb-fals
 use Rattle.paper.specs.Lists.{bytes, if, isEmpty, same, elem, every, count, number}
 use Rattle.paper.specs.Bytes.{isDecoded}
 use Rattle.paper.specs.Grammar.{Attr}
-use Rattle.paper.specs.Fields.{Kind, unknown, MP, P, A, O, S, M, W, R, X, edition, Field, field, version, fieldsOf}
+use Rattle.paper.specs.Fields.{Kind, unknown, MP, P, A, O, S, M, W, R, X, edition, Field, field, version, fieldsOf, excluded}
 use Rattle.paper.specs.Rules.{keeps, obeys}
 use Rattle.paper.specs.Plan.{Slots}
-use Rattle.paper.specs.Judging.{names, slotsOf, broken, breaks}
+use Rattle.paper.specs.Judging.{names, slotsOf, broken, breaks, clash}
 use Rattle.paper.proofs.Small.{no, neither}
 use Rattle.paper.proofs.Small as Small
 use Rattle.fields.specs.Places.{noField, kindAt}
 use Rattle.fields.proofs.TableLaws.{code-back}
 use Rattle.room.proofs.PairLaws.{pairs-at, each-at}
 use Rattle.sheet.specs.Fold.{flaw, needsW}
-use Rattle.sheet.specs.Found.{thereIn}
-use Rattle.sheet.specs.Flaws.{digitsFlaw}
-use Rattle.sheet.proofs.FoundLaws.{standing-at}
-use Rattle.sheet.proofs.FlawLaws.{is-medication, One, one-digit, unbroken-at, by-digits, pairFlaw}
+use Rattle.sheet.specs.Flaws.{digitsFlaw, clashAt}
+use Rattle.sheet.proofs.FlawLaws.{is-medication, there-clash, One, one-digit, unbroken-at, by-digits, pairFlaw}
 use Rattle.tape.specs.Tape.{aside, shownIn, valuesAt, Span, Spans, Holds}
-use Rattle.quick.specs.Fits.{present, stands, both, Fits}
+use Rattle.quick.specs.Fits.{present, Fits}
 
 -- ---- one value
 
@@ -82,12 +80,9 @@ module _ {w side : List ℕ} {k : Kind} {t : List ℕ} {i : ℕ} {l : List Attr}
   given : (j : ℕ) → j < length (fieldsOf k) → present t i j ≡ true → isEmpty (getD (slotsOf (fieldsOf k) l) j []) ≡ false
   given j h e = absent-is j h ∙ not-true (eqb (getD t (i + 2 * j) 0) (getD t (i + 2 * j + 1) 0)) e
 
-  -- an attribute that stands in the tag
-  stands-is : (j : ℕ) → j < length (fieldsOf k) → getD (thereIn (fieldsOf k) l) j false ≡ stands t i j
-  stands-is j h = ap (λ (b : List Bool). getD b j false) (sym (H .there)) ∙ standing-at (length (fieldsOf k)) t i j h
-
-  apart : (j m : ℕ) → j < length (fieldsOf k) → m < length (fieldsOf k) → both t i j m ≡ false → getD (thereIn (fieldsOf k) l) j false && getD (thereIn (fieldsOf k) l) m false ≡ false
-  apart j m h g e = rw (stands-is j h, stands-is m g) e
+  -- no two fields that exclude each other stand in the tag
+  apart : clashAt k t i ≡ false → clash (excluded k) (names l) ≡ false
+  apart e = sym (there-clash k t i l (H .there)) ∙ e
 
 -- no fault of a and z
 nine : (x y : Bool) → _≡_ {A = ℕ} (if x 7 (if y 8 9)) 9 → (x ≡ false) × (y ≡ false)
@@ -119,27 +114,19 @@ module _ {w side t : List ℕ} {i : ℕ} where
       let (b, c) = Small.both (present t i 1) (present t i 2) q in
       rw (H .kept, given H 0 (omega arith) a, given H 1 (omega arith) b, given H 2 (omega arith) c)
 
-  pub fits-A : both t i 0 1 ≡ false → both t i 0 2 ≡ false → both t i 1 2 ≡ false → present t i 3 ≡ true → present t i 9 ≡ true → Fits w side A t i
+  pub fits-A : clashAt A t i ≡ false → present t i 3 && present t i 9 ≡ true → Fits w side A t i
   unfolding fieldsOf flaw
-  fits-A a b c d e l H =
-      rw (H .kept, given H 3 (omega arith) d, given H 9 (omega arith) e, apart H 0 1 (omega arith) (omega arith) a, apart H 0 2 (omega arith) (omega arith) b, apart H 1 2 (omega arith) (omega arith) c)
+  fits-A c e l H =
+      let (a, b) = Small.both (present t i 3) (present t i 9) e in
+      rw (H .kept, given H 3 (omega arith) a, given H 9 (omega arith) b, apart H c)
 
-  pub fits-S : both t i 0 1 ≡ false → Fits w side S t i
+  pub fits-S : clashAt S t i ≡ false → Fits w side S t i
   unfolding fieldsOf flaw
-  fits-S a l H = rw (H .kept, apart H 0 1 (omega arith) (omega arith) a)
+  fits-S c l H = rw (H .kept, apart H c)
 
-  pub fits-M : both t i 2 3 ≡ false → both t i 4 8 ≡ false → both t i 5 8 ≡ false → both t i 6 8 ≡ false → both t i 7 8 ≡ false → both t i 9 10 ≡ false → Fits w side M t i
+  pub fits-M : clashAt M t i ≡ false → Fits w side M t i
   unfolding fieldsOf flaw
-  fits-M a b c d e f l H =
-      rw (
-        H .kept,
-        apart H 2 3 (omega arith) (omega arith) a,
-        apart H 4 8 (omega arith) (omega arith) b,
-        apart H 5 8 (omega arith) (omega arith) c,
-        apart H 6 8 (omega arith) (omega arith) d,
-        apart H 7 8 (omega arith) (omega arith) e,
-        apart H 9 10 (omega arith) (omega arith) f,
-      )
+  fits-M c l H = rw (H .kept, apart H c)
 
   pub fits-W : present t i 0 ≡ true → Fits w side W t i
   unfolding fieldsOf flaw
@@ -202,10 +189,10 @@ fits-at {w} {side} {t} {i} e n q f = subst (λ (x : ℕ). Fits w side (kindAt x)
 pub count-by : (e n m : ℕ) → e ≡ n → length (fieldsOf (kindAt n)) ≡ m → length (fieldsOf (kindAt e)) ≡ m
 count-by e n m q f = subst (λ (x : ℕ). length (fieldsOf (kindAt x)) ≡ m) (sym q) f
 
-pub counts : (length (fieldsOf (kindAt 1)) ≡ 6) × (length (fieldsOf (kindAt 2)) ≡ 8) × (length (fieldsOf (kindAt 3)) ≡ 10) × (length (fieldsOf (kindAt 5)) ≡ 2) × (length (fieldsOf (kindAt 6)) ≡ 14)
+pub counts : (length (fieldsOf (kindAt 1)) ≡ 6) × (length (fieldsOf (kindAt 2)) ≡ 8) × (length (fieldsOf (kindAt 3)) ≡ 10) × (length (fieldsOf (kindAt 6)) ≡ 14)
     × (length (fieldsOf (kindAt 7)) ≡ 2) × (length (fieldsOf (kindAt 8)) ≡ 2) × (length (fieldsOf (kindAt 9)) ≡ 1)
 unfolding kindAt fieldsOf
-counts = (refl, refl, refl, refl, refl, refl, refl, refl)
+counts = (refl, refl, refl, refl, refl, refl, refl)
 
 module _ {A : Type 0} (e : ℕ) (low : 6 < e) (high : e < 10) (f : e ≡ 7 → A) (g : e ≡ 8 → A) (h : e ≡ 9 → A) where
   pub last-three : A
@@ -221,30 +208,40 @@ module _ {A : Type 0} (e : ℕ) (low : 6 < e) (high : e < 10) (f : e ≡ 7 → A
 
 pub one-field : (e : ℕ) → 6 < e → e < 10 → 1 ≤ length (fieldsOf (kindAt e))
 one-field e a b =
-    last-three e a b (λ q. let z = count-by e 7 2 q (counts .5) in omega (arith, z)) (λ q. let z = count-by e 8 2 q (counts .6) in omega (arith, z)) (λ q. let z = count-by e 9 1 q (counts .7) in omega (arith, z))
+    last-three e a b (λ q. let z = count-by e 7 2 q (counts .4) in omega (arith, z)) (λ q. let z = count-by e 8 2 q (counts .5) in omega (arith, z)) (λ q. let z = count-by e 9 1 q (counts .6) in omega (arith, z))
 
 pub fits-last : {w side t : List ℕ} {i : ℕ} (e : ℕ) → 6 < e → e < 10 → present t i 0 ≡ true → Fits w side (kindAt e) t i
 unfolding kindAt
 fits-last e a b p = last-three e a b (λ q. fits-at e 7 q (fits-W p)) (λ q. fits-at e 8 q (fits-R p)) (λ q. fits-at e 9 q (fits-X p))
 
-under : (e : ℕ) → (e ≡ 4 → ⊥) → (e ≡ 5 → ⊥) → (e ≡ 6 → ⊥) → e ≤ 6 → e < 4
-under e a b c h = omega arith
+least : (e : ℕ) → e ≤ 6 → (e ≡ 1 → ⊥) → (e ≡ 2 → ⊥) → (e ≡ 3 → ⊥) → (e ≡ 4 → ⊥) → (e ≡ 5 → ⊥) → (e ≡ 6 → ⊥) → e ≡ 0
+least e h a b c d f g = omega arith
 
-least : (e : ℕ) → e < 4 → (e ≡ 1 → ⊥) → (e ≡ 2 → ⊥) → (e ≡ 3 → ⊥) → e ≡ 0
-least e h a b c = omega arith
-
-pub fits-rest : {w side t : List ℕ} {i : ℕ} (e : ℕ) → (e ≡ 1 → ⊥) → (e ≡ 2 → ⊥) → (e ≡ 3 → ⊥) → (e ≡ 5 → ⊥) → (e ≡ 6 → ⊥) → e ≤ 6 → Fits w side (kindAt e) t i
+-- an element none of whose fields must be present
+pub fits-rest : {w side t : List ℕ} {i : ℕ} (e : ℕ) → clashAt (kindAt e) t i ≡ false → (e ≡ 1 → ⊥) → (e ≡ 2 → ⊥) → (e ≡ 3 → ⊥) → e ≤ 6 → Fits w side (kindAt e) t i
 unfolding kindAt
-fits-rest {w} {side} {t} {i} e a b c d f h = go (eqb e 4) refl
+fits-rest {w} {side} {t} {i} e z a b c h = four (eqb e 4) refl
   where
-    go : (x : Bool) → eqb e 4 ≡ x → Fits w side (kindAt e) t i
-    go true q = fits-at e 4 (eqb-true e 4 q) fits-O
-    go false q = fits-at e 0 (least e (under e (eqb-false e 4 q) d f h) a b c) fits-unknown
+    clear : (n : ℕ) → e ≡ n → clashAt (kindAt n) t i ≡ false
+    clear n q = subst (λ (x : ℕ). clashAt (kindAt x) t i ≡ false) q z
 
-pub fits-numbered : {w side t : List ℕ} {i : ℕ} → (Fits w side MP t i → Fits w side (kindAt 1) t i) × (Fits w side P t i → Fits w side (kindAt 2) t i) × (Fits w side A t i → Fits w side (kindAt 3) t i)
-    × (Fits w side S t i → Fits w side (kindAt 5) t i) × (Fits w side M t i → Fits w side (kindAt 6) t i)
+    six : (e ≡ 4 → ⊥) → (e ≡ 5 → ⊥) → (x : Bool) → eqb e 6 ≡ x → Fits w side (kindAt e) t i
+    six d f true q = let p = eqb-true e 6 q in fits-at e 6 p (fits-M (clear 6 p))
+    six d f false q = fits-at e 0 (least e h a b c d f (eqb-false e 6 q)) fits-unknown
+
+    five : (e ≡ 4 → ⊥) → (x : Bool) → eqb e 5 ≡ x → Fits w side (kindAt e) t i
+    five d true q = let p = eqb-true e 5 q in fits-at e 5 p (fits-S (clear 5 p))
+    five d false q = six d (eqb-false e 5 q) (eqb e 6) refl
+
+    four : (x : Bool) → eqb e 4 ≡ x → Fits w side (kindAt e) t i
+    four true q = fits-at e 4 (eqb-true e 4 q) fits-O
+    four false q = five (eqb-false e 4 q) (eqb e 5) refl
+
+-- the elements that the maker asks for by their numbers
+pub fits-numbered : {w side t : List ℕ} {i : ℕ} → (Fits w side MP t i → Fits w side (kindAt 1) t i) × (Fits w side P t i → Fits w side (kindAt 2) t i)
+    × (clashAt (kindAt 3) t i ≡ false → present t i 3 && present t i 9 ≡ true → Fits w side (kindAt 3) t i)
 unfolding kindAt
-fits-numbered = (λ f. f, λ f. f, λ f. f, λ f. f, λ f. f)
+fits-numbered = (λ f. f, λ f. f, λ c e. fits-A c e)
 
 pub needs-at : {w side t : List ℕ} {i : ℕ} {l : List Attr}
     → ((e : ℕ) → e ≡ 6 → Holds w side (length side) (kindAt e) t i l → present t i 0 ≡ true → false ≡ needsW (kindAt e) (slotsOf (fieldsOf (kindAt e)) l))

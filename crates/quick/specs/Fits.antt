@@ -1,7 +1,7 @@
 -- Fits: whether the fields of an element go together, by their numbers on the tape.
 -- Assumes nothing.
 use mathlib.Core.Path.{_≡_}
-use mathlib.Core.Bool.{Bool, not, _&&_}
+use mathlib.Core.Bool.{Bool, not}
 use mathlib.Core.List.{List}
 use Prim.Native.Nat.{ℕ, _+_, _*_}
 use lib.Dec.{eqb}
@@ -15,14 +15,6 @@ use Rattle.tape.specs.Tape.{Holds}
 -- field j of the slots that begin at i has a value that counts
 abbrev pub present : List ℕ → ℕ → ℕ → Bool
 present t i j = not (eqb (getD t (i + 2 * j) 0) (getD t (i + 2 * j + 1) 0))
-
--- it stands in the tag, empty or not
-abbrev pub stands : List ℕ → ℕ → ℕ → Bool
-stands t i j = not (eqb (getD t (i + 2 * j) 0) 0)
-
--- two fields stand in the tag
-abbrev pub both : List ℕ → ℕ → ℕ → ℕ → Bool
-both t i j k = stands t i j && stands t i k
 
 -- whatever attributes the slots hold, they have no fault
 abbrev pub Fits : List ℕ → List ℕ → Kind → List ℕ → ℕ → Type 0

@@ -12,6 +12,7 @@ ghost use Rattle.sheet.specs.Fold.{needsW};
 ghost use Rattle.tape.specs.Tape.{shownIn, Span, Spans, Holds};
 ghost use Rattle.quick.specs.Fits as Spec;
 use quoted::value::ASIDE;
+use sheet::flaws::clashes;
 use sheet::flaws::digits_flaw;
 
 // The numbers of elements.
@@ -20,8 +21,6 @@ const PLAN: u8 = 1;
 const PERSON: u8 = 2;
 
 const AUTHOR: u8 = 3;
-
-const HEADING: u8 = 5;
 
 const MEDICATION: u8 = 6;
 
@@ -35,25 +34,6 @@ fn is_there(tape: &[u16], base: usize, j: usize) -> bool
 {
     let s = base + 2 * j;
     tape[s] != tape[s + 1]
-}
-
-// Whether it stands in the tag.
-fn stands(tape: &[u16], base: usize, j: usize) -> bool
-    requires { ⌜ (base + 2 * j < length (now tape)) × (length (now tape) < 65536) ⌝ }
-    ensures { λ r. ⌜ r ≡ Spec.stands (now (tape .entry)) base j ⌝ }
-{
-    tape[base + 2 * j] != 0
-}
-
-// Whether two fields stand in the tag.
-fn both(tape: &[u16], base: usize, j: usize, k: usize) -> bool
-    requires { ⌜ (base + 2 * j < length (now tape)) × (base + 2 * k < length (now tape)) × (length (now tape) < 65536) ⌝ }
-    ensures { λ r. ⌜ r ≡ Spec.both (now (tape .entry)) base j k ⌝ }
-{
-    if stands(tape, base, j) {
-        return stands(tape, base, k);
-    }
-    false
 }
 
 // The first byte of the value that the two numbers at a place of the tape tell, 0 if it is absent.
@@ -102,52 +82,15 @@ fn person_fits(tape: &[u16], base: usize) -> bool
     false
 }
 
-// Whether no two of lanr, idf and kik stand in A, and n and t are there.
+// Whether n and t of A are there.
 fn author_fits(tape: &[u16], base: usize) -> bool
     requires { ⌜ (base + 20 ≤ length (now tape)) × (length (now tape) < 65536) ⌝ }
-    ensures { λ r. ⌜ (r ≡ true → (Spec.both (now (tape .entry)) base 0 1 ≡ false) × (Spec.both (now (tape .entry)) base 0 2 ≡ false) × (Spec.both (now (tape .entry)) base 1 2 ≡ false)
-        × (Spec.present (now (tape .entry)) base 3 ≡ true) × (Spec.present (now (tape .entry)) base 9 ≡ true)) ⌝ }
+    ensures { λ r. ⌜ r ≡ (Spec.present (now (tape .entry)) base 3 && Spec.present (now (tape .entry)) base 9) ⌝ }
 {
-    if both(tape, base, 0, 1) {
-        return false;
-    }
-    if both(tape, base, 0, 2) {
-        return false;
-    }
-    if both(tape, base, 1, 2) {
-        return false;
-    }
     if is_there(tape, base, 3) {
         return is_there(tape, base, 9);
     }
     false
-}
-
-// Whether no two fields of M that exclude each other stand in it.
-fn medication_fits(tape: &[u16], base: usize) -> bool
-    requires { ⌜ (base + 28 ≤ length (now tape)) × (length (now tape) < 65536) ⌝ }
-    ensures { λ r. ⌜ (r ≡ true → (Spec.both (now (tape .entry)) base 2 3 ≡ false) × (Spec.both (now (tape .entry)) base 4 8 ≡ false) × (Spec.both (now (tape .entry)) base 5 8 ≡ false)
-        × (Spec.both (now (tape .entry)) base 6 8 ≡ false) × (Spec.both (now (tape .entry)) base 7 8 ≡ false) × (Spec.both (now (tape .entry)) base 9 10 ≡ false)) ⌝ }
-{
-    if both(tape, base, 2, 3) {
-        return false;
-    }
-    if both(tape, base, 4, 8) {
-        return false;
-    }
-    if both(tape, base, 5, 8) {
-        return false;
-    }
-    if both(tape, base, 6, 8) {
-        return false;
-    }
-    if both(tape, base, 7, 8) {
-        return false;
-    }
-    if both(tape, base, 9, 10) {
-        return false;
-    }
-    true
 }
 
 // Whether the fields of an element go together.
@@ -156,6 +99,9 @@ pub fn tag_fits(page: &[u8], kind: u8, tape: &[u16], base: usize, side: &[u8]) -
         × Spans (now page) (length (now side)) (length (fieldsOf (kindAt kind))) (now tape) base ⌝ }
     ensures { λ r. ⌜ (r ≡ true → Spec.Fits (now (page .entry)) (now (side .entry)) (kindAt kind) (now (tape .entry)) base) ⌝ }
 {
+    if clashes(kind, tape, base) {
+        return false;
+    }
     if kind == PLAN {
         return plan_fits(page, tape, base, side);
     }
@@ -164,12 +110,6 @@ pub fn tag_fits(page: &[u8], kind: u8, tape: &[u16], base: usize, side: &[u8]) -
     }
     if kind == AUTHOR {
         return author_fits(tape, base);
-    }
-    if kind == HEADING {
-        return !both(tape, base, 0, 1);
-    }
-    if kind == MEDICATION {
-        return medication_fits(tape, base);
     }
     if kind > MEDICATION {
         return is_there(tape, base, 0);

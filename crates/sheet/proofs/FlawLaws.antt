@@ -476,6 +476,11 @@ clash-places fs l (p ∷ ps) e =
       clash-places fs l ps y,
     )
 
+-- two excluded fields are there just when their letters are among the names
+pub there-clash : (k : Kind) (t : List ℕ) (i : ℕ) (l : List Attr) → standing (length (fieldsOf k)) t i ≡ thereIn (fieldsOf k) l → clashAt k t i ≡ clash (excluded k) (names l)
+unfolding clashAt onesOf othersOf
+there-clash k t i l e = rw e (clash-places (fieldsOf k) l (excluded k) (all-paired k))
+
 -- ---- what the raw values tell of the attributes
 
 -- no value breaks its field where the fields' fault is not 7
@@ -494,9 +499,8 @@ module _ {w : List ℕ} {k : Kind} {rs : List ℕ} {l : List Attr} (T : Tells w 
   told-slots = ap (settledIn (fieldsOf k)) (T .raws) ∙ sym (slots-found (fieldsOf k) l)
 
   -- its excluded pairs
-  pub told-clash : clashAt k rs 0 ≡ clash (excluded k) (names l)
-  unfolding clashAt onesOf othersOf
-  told-clash = rw (T .there) (clash-places (fieldsOf k) l (excluded k) (all-paired k))
+  told-clash : clashAt k rs 0 ≡ clash (excluded k) (names l)
+  told-clash = there-clash k rs 0 l (T .there)
 
   -- ---- the least fault of the tag
 
