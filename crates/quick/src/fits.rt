@@ -11,18 +11,13 @@ ghost use Rattle.fields.specs.Places.{kindAt, kindCount};
 ghost use Rattle.sheet.specs.Fold.{needsW};
 ghost use Rattle.tape.specs.Tape.{shownIn, Span, Spans, Holds};
 ghost use Rattle.quick.specs.Fits as Spec;
+use fields::places::A;
+use fields::places::M;
+use fields::places::MP;
+use fields::places::P;
 use quoted::value::ASIDE;
 use sheet::flaws::clashes;
 use sheet::flaws::digits_flaw;
-
-// The numbers of elements.
-const PLAN: u8 = 1;
-
-const PERSON: u8 = 2;
-
-const AUTHOR: u8 = 3;
-
-const MEDICATION: u8 = 6;
 
 // The number that stands for no fault.
 const NONE: u8 = 9;
@@ -102,16 +97,16 @@ pub fn tag_fits(page: &[u8], kind: u8, tape: &[u16], base: usize, side: &[u8]) -
     if clashes(kind, tape, base) {
         return false;
     }
-    if kind == PLAN {
+    if kind == MP {
         return plan_fits(page, tape, base, side);
     }
-    if kind == PERSON {
+    if kind == P {
         return person_fits(tape, base);
     }
-    if kind == AUTHOR {
+    if kind == A {
         return author_fits(tape, base);
     }
-    if kind > MEDICATION {
+    if kind > M {
         return is_there(tape, base, 0);
     }
     true
@@ -122,7 +117,7 @@ pub fn needs_w(kind: u8, tape: &[u16], base: usize) -> bool
     requires { ⌜ (kind < kindCount) × (base + 2 * length (fieldsOf (kindAt kind)) ≤ length (now tape)) × (length (now tape) < 65536) ⌝ }
     ensures { λ r. ⌜ ((w side : List ℕ) (l : List Attr) → Holds w side (length side) (kindAt kind) (now (tape .entry)) base l → r ≡ needsW (kindAt kind) (slotsOf (fieldsOf (kindAt kind)) l)) ⌝ }
 {
-    if kind != MEDICATION {
+    if kind != M {
         return false;
     }
     if is_there(tape, base, 0) {
