@@ -6,7 +6,7 @@ use mathlib.Core.List.{List, [], _∷_, _++_, append-assoc, append-nil}
 use Prim.Native.Nat.{ℕ, zero, suc, _+_, _*_, _≤_, _<_}
 use native.Mathlib.Nat.{add-zero}
 use native.Mathlib.Omega.{arith}
-use lib.Dec.{eqb, ltb}
+use lib.Dec.{ltb}
 use lib.ListN.{length, getD, set, take, drop, length-set}
 use lib.Seq.{slice, slice-empty, slice-cons, take-set-le}
 use borrow.Author.Tests.{eq-eqb, lt-ltb, ltb-true, ltb-false}
@@ -23,7 +23,7 @@ use Rattle.paper.proofs.Element.{distinct}
 use Rattle.fields.specs.Places.{noField, placeIn, firstOf, fieldAt, countOf}
 use Rattle.fields.proofs.TableLaws.{known, field-at}
 use Rattle.sheet.specs.Fold.{strange}
-use Rattle.sheet.specs.Found.{rawsIn, settledIn, thereIn}
+use Rattle.sheet.specs.Found.{rawsIn, settledIn}
 use Rattle.sheet.proofs.FoundLaws.{slots-found, names-append, raws-more, there-more, every-seam, once-more, fits, there-place, standing-at, standing-put, standing-none}
 use Rattle.tape.specs.Tape.{aside, shownIn, valuesAt, Span, Holds}
 use Rattle.quoted.specs.Valued.{Valued, Grown}

@@ -1,8 +1,8 @@
 // The attributes of a start tag, read onto the tape.
 ghost use mathlib.Core.Path.{_≡_};
-ghost use Prim.Native.Nat.{ℕ, _+_, _*_, _≤_, _<_};
+ghost use Prim.Native.Nat.{_+_, _*_, _≤_, _<_};
 ghost use lib.Dec.{eqb};
-ghost use lib.ListN.{length, getD, set, take, drop};
+ghost use lib.ListN.{length, getD, set, drop};
 ghost use Rattle.paper.specs.Lists.{until};
 ghost use Rattle.paper.specs.Bytes.{isSpace};
 ghost use Rattle.paper.specs.Fields.{fieldsOf};

@@ -1,6 +1,6 @@
 -- ValueLaws: a value decoded and settled, and what the raw values of a tag tell, field by field.
 -- Assumes nothing.
-use mathlib.Core.Path.{_≡_, refl, sym, ap, _∙_}
+use mathlib.Core.Path.{_≡_, sym, ap, _∙_}
 use mathlib.Core.Bool.{true, false}
 use mathlib.Core.List.{List, [], _∷_}
 use Prim.Native.Nat.{ℕ, zero, suc, _+_, _*_, _≤_, _<_}
@@ -10,11 +10,11 @@ use lib.ListN.{length, take, drop, getD, length-append, take-append-drop}
 use lib.Seq.{slice, take-at, drop-at, take-add, length-take-le}
 use Rattle.paper.specs.Lists.{concat}
 use Rattle.paper.specs.Values.{value}
-use Rattle.paper.specs.Fields.{Kind, fieldsOf}
+use Rattle.paper.specs.Fields.{Kind}
 use Rattle.paper.specs.Rules.{isZero}
 use Rattle.paper.specs.Plan.{Slots}
 use Rattle.room.specs.Laid.{laid}
-use Rattle.fields.specs.Places.{fieldAt, firstOf, countOf, kindAt, ruleAt, ruleNumber}
+use Rattle.fields.specs.Places.{fieldAt, firstOf, countOf, ruleAt, ruleNumber}
 use Rattle.fields.proofs.TableLaws.{field-at}
 use Rattle.fields.proofs.RuleLaws.{rule-back}
 use Rattle.room.proofs.LaidLaws.{laid-before, laid-there}

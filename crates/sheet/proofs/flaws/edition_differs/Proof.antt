@@ -1,6 +1,5 @@
 -- `sheet::flaws::edition_differs` meets its contract: MP's first field is v.
 -- Assumes nothing.
-
 use mathlib.Core.Path.{sym, _∙_, ap}
 use mathlib.Core.Bool.{not}
 use native.Mathlib.Omega.{arith}

@@ -1,6 +1,5 @@
 -- `sheet::flaws::field_flaw` meets its contract: the value that counts, judged by its field.
 -- Assumes nothing.
-
 use mathlib.Core.Path.{ap, _∙_}
 use native.Mathlib.Omega.{arith}
 use Rattle.fields.specs.Places.{fieldAt, fieldFlaw}

@@ -1,6 +1,5 @@
 -- `sheet::flaws::first_byte` meets its contract: the first byte of what is written.
 -- Assumes nothing.
-
 use mathlib.Core.Path.{_∙_, ap}
 use mathlib.Core.List.{List}
 use Prim.Native.Nat.{ℕ}

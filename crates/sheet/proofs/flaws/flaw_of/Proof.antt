@@ -1,6 +1,5 @@
 -- `sheet::flaws::flaw_of` meets its contract: each answer is the least fault where no lower one was found.
 -- Assumes nothing.
-
 use mathlib.Core.Path.{sym, _∙_}
 use native.Mathlib.Omega.{arith}
 use Rattle.sheet.proofs.FlawLaws.{unbroken, flaw-six, flaw-seven, flaw-pages, flaw-eight, flaw-clash, flaw-none}

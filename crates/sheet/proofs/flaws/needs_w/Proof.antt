@@ -1,6 +1,5 @@
 -- `sheet::flaws::needs_w` meets its contract: M's first two fields are p and a.
 -- Assumes nothing.
-
 use mathlib.Core.Path.{sym, ap}
 use native.Mathlib.Omega.{arith}
 use Rattle.paper.specs.Lists.{isEmpty}

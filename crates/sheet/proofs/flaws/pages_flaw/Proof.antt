@@ -1,6 +1,5 @@
 -- `sheet::flaws::pages_flaw` meets its contract: where a and z keep their fields, each is one digit or absent.
 -- Assumes nothing.
-
 use mathlib.Core.Path.{_∙_}
 use native.Mathlib.Omega.{arith}
 use Rattle.sheet.proofs.FlawLaws.{plan-long, no-pages, pages-by}

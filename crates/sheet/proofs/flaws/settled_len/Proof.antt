@@ -1,6 +1,5 @@
 -- `sheet::flaws::settled_len` meets its contract: a zero dose is absent.
 -- Assumes nothing.
-
 use mathlib.Core.Path.{sym}
 use native.Mathlib.Omega.{arith}
 use lib.Seq.{length-take-le}

@@ -1,6 +1,5 @@
 -- `sheet::flaws::value_len` meets its contract: the raw bytes within the page are decoded.
 -- Assumes nothing.
-
 use Prim.Native.Nat.{_+_, _*_}
 use native.Mathlib.Omega.{arith}
 use lib.ListN.{getD}

@@ -1,6 +1,5 @@
 -- `sheet::judge::faults_of` meets its contract: the least fault of the page's tags is that of the tags still to come, from the state on.
 -- Assumes nothing.
-
 use mathlib.Core.Path.{_≡_, refl, sym, ap, _∙_, subst}
 use mathlib.Core.Bool.{Bool}
 use mathlib.Core.List.{List, []}
