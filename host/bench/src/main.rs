@@ -55,13 +55,22 @@ fn faulty_page(pages: &[Vec<u8>]) -> bool {
     pages.len() == 1 && pages[0].len() >= 1_000 && faulty()
 }
 
-/// Further calls of which reading is measured: the words for each, its pages, and what it is measured beside.
-fn further(nine: &[Vec<u8>]) -> Vec<(String, Vec<Vec<u8>>, &'static str)> {
+/// A further measurement: its words, the pages, what is done with them or with their plan, and what it is measured beside.
+type Further = (String, Vec<Vec<u8>>, &'static str, &'static str);
+
+/// Further calls: reading them, and of the same plan on fresh pages listing and writing too.
+fn further(nine: &[Vec<u8>]) -> Vec<Further> {
     let plan = second::read(&views(nine)).expect("the pages are a plan");
     let fresh = second::write(&plan).expect("the plan fits on nine fresh pages");
-    let mut all = vec![("the same plan on fresh pages".to_string(), fresh, "pugixml")];
+    let mut all: Vec<Further> = [
+        ("the same plan on fresh pages", "read"),
+        ("the same, listed", "list"),
+        ("that plan, written", "write"),
+    ]
+    .map(|(words, work)| (words.to_string(), fresh.clone(), work, "pugixml"))
+    .to_vec();
     let mut add = |words: &str, calls: Vec<(u64, Vec<Vec<u8>>)>, beside| {
-        let named = |(seed, pages)| (format!("{words} (seed {seed})"), pages, beside);
+        let named = |(seed, pages)| (format!("{words} (seed {seed})"), pages, "read", beside);
         all.extend(calls.into_iter().map(named));
     };
     add(
@@ -74,15 +83,20 @@ fn further(nine: &[Vec<u8>]) -> Vec<(String, Vec<Vec<u8>>, &'static str)> {
     all
 }
 
-/// The quickest reading of a call, and the quickest of what it is measured beside, in seconds.
-fn beside(pages: &[Vec<u8>], beside: &str) -> (f64, f64) {
+/// The quickest of a work on a call, and the quickest of what it is measured beside, in seconds; the two take turns.
+fn beside(pages: &[Vec<u8>], work: &'static str, beside: &str) -> (f64, f64) {
     let call = Call::new(pages);
     let mut rooms = border::Rooms::new();
+    rooms.read(&call);
     let mut works = [
         Work {
-            name: "read",
+            name: work,
             words: "",
-            run: Box::new(|| rooms.read(&call)),
+            run: match work {
+                "list" => Box::new(|| rooms.list(&call)),
+                "write" => Box::new(|| rooms.write()),
+                _ => Box::new(|| rooms.read(&call)),
+            },
         },
         Work {
             name: "other",
@@ -353,17 +367,17 @@ fn main() {
         );
     }
     println!(
-        "\nReading other calls, each beside the bare parse of its pages, or beside judging them:\n"
+        "\nReading other calls, and listing and writing one, each in turns with the bare parse of its pages, or with judging them:\n"
     );
     println!("| Call | pages | bytes | a byte | to that |\n|---|---|---|---|---|");
-    for (words, pages, other) in further(&pages) {
+    for (words, pages, work, other) in further(&pages) {
         let bytes: usize = pages.iter().map(Vec::len).sum();
-        let (read, time) = beside(&pages, other);
+        let (taken, time) = beside(&pages, work, other);
         println!(
             "| {words} | {} | {bytes} | {:.2} ns | {:.2} of {other} |",
             pages.len(),
-            read * 1e9 / bytes as f64,
-            read / time,
+            taken * 1e9 / bytes as f64,
+            taken / time,
         );
     }
 }
