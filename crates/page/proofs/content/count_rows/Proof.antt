@@ -1,4 +1,4 @@
--- `tape::pages::count_rows` meets its contract: the rows are those counted and those of the elements that are left.
+-- `page::content::count_rows` meets its contract: the rows are those counted and those of the elements that are left.
 -- Assumes nothing.
 use mathlib.Core.Path.{_≡_, refl, sym, ap, _∙_}
 use mathlib.Core.List.{List}

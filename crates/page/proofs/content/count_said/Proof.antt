@@ -1,4 +1,4 @@
--- `tape::pages::count_said` meets its contract: a page number shows a number above 0 where it is there.
+-- `page::content::count_said` meets its contract: a page number shows a number above 0 where it is there.
 -- Assumes nothing.
 use mathlib.Core.Path.{_≡_, refl, sym, ap, _∙_}
 use mathlib.Core.List.{List, []}

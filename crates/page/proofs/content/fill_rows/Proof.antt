@@ -1,4 +1,4 @@
--- `tape::pages::fill_rows` meets its contract: the rows that are to be laid are those laid and those of the elements that are left.
+-- `page::content::fill_rows` meets its contract: the rows that are to be laid are those laid and those of the elements that are left.
 -- Assumes nothing.
 use mathlib.Core.Path.{_≡_, refl, sym, ap, _∙_, subst}
 use mathlib.Core.List.{List, [], _∷_}

@@ -1,4 +1,4 @@
--- `tape::pages::find_head` meets its contract.
+-- `page::content::find_head` meets its contract.
 -- Assumes nothing.
 use native.Mathlib.Omega.{arith}
 use Rattle.fields.specs.Places.{kindAt}

@@ -1,4 +1,4 @@
--- `tape::pages::gives_row` meets its contract: by the kind alone, and for a heading by its two values.
+-- `page::content::gives_row` meets its contract: by the kind alone, and for a heading by its two values.
 -- Assumes nothing.
 use mathlib.Core.Path.{_≡_, refl, sym, ap, _∙_, subst}
 use Prim.Native.Nat.{ℕ, _+_, _*_, _≤_}

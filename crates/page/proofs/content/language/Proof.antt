@@ -1,4 +1,4 @@
--- `tape::pages::language` meets its contract.
+-- `page::content::language` meets its contract.
 -- Assumes nothing.
 use mathlib.Core.Path.{_≡_, ap, _∙_}
 use Prim.Native.Nat.{ℕ, _+_}

@@ -1,4 +1,4 @@
--- `tape::pages::lay_head` meets its contract: U and l, P, A and O are laid one behind the other.
+-- `page::content::lay_head` meets its contract: U and l, P, A and O are laid one behind the other.
 -- Assumes nothing.
 use mathlib.Core.Path.{_≡_, refl, sym, ap, _∙_}
 use mathlib.Core.List.{List, [], _∷_, _++_}

@@ -1,4 +1,4 @@
--- `tape::pages::lay_medication` meets its contract: the record is open with the package number, and the values of the M and of its W are laid into it.
+-- `page::content::lay_medication` meets its contract: the record is open with the package number, and the values of the M and of its W are laid into it.
 -- Assumes nothing.
 use mathlib.Core.Path.{_≡_, refl, sym, ap, _∙_}
 use mathlib.Core.List.{List, [], _∷_}

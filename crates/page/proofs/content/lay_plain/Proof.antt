@@ -1,4 +1,4 @@
--- `tape::pages::lay_plain` meets its contract: the record is open, and all values of the element are laid into it.
+-- `page::content::lay_plain` meets its contract: the record is open, and all values of the element are laid into it.
 -- Assumes nothing.
 use mathlib.Core.Path.{_≡_, refl, sym, ap, _∙_, subst}
 use Prim.Native.Nat.{ℕ, _+_, _*_, _≤_}

@@ -1,4 +1,4 @@
--- `tape::pages::lay_ws` meets its contract: the W that are to be laid are those laid and those of the elements that are left.
+-- `page::content::lay_ws` meets its contract: the W that are to be laid are those laid and those of the elements that are left.
 -- Assumes nothing.
 use mathlib.Core.Path.{_≡_, refl, sym, ap, _∙_}
 use mathlib.Core.List.{List, _∷_}

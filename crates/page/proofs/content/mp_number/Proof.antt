@@ -1,4 +1,4 @@
--- `tape::pages::mp_number` meets its contract.
+-- `page::content::mp_number` meets its contract.
 -- Assumes nothing.
 use mathlib.Core.Path.{_≡_, ap, _∙_}
 use native.Mathlib.Omega.{arith}

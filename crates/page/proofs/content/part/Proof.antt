@@ -1,4 +1,4 @@
--- `tape::pages::part` meets its contract: the first element of the kind is the first of those that are left.
+-- `page::content::part` meets its contract: the first element of the kind is the first of those that are left.
 -- Assumes nothing.
 use mathlib.Core.Path.{_≡_, refl, sym, ap, _∙_}
 use mathlib.Core.List.{List}

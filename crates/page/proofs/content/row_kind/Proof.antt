@@ -1,4 +1,4 @@
--- `tape::pages::row_kind` meets its contract: four kinds of elements give rows.
+-- `page::content::row_kind` meets its contract: four kinds of elements give rows.
 -- Assumes nothing.
 use mathlib.Core.Path.{sym}
 use Rattle.fields.specs.Places.{kindAt}

@@ -1,4 +1,4 @@
--- `tape::pages::same_head` meets its contract: the parts decide, one after the other.
+-- `page::content::same_head` meets its contract: the parts decide, one after the other.
 -- Assumes nothing.
 use mathlib.Core.Path.{_≡_, sym, _∙_}
 use mathlib.Core.Bool.{Bool, true, false}

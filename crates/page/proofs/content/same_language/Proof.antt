@@ -1,4 +1,4 @@
--- `tape::pages::same_language` meets its contract.
+-- `page::content::same_language` meets its contract.
 -- Assumes nothing.
 use mathlib.Core.Path.{_≡_, _∙_}
 use Rattle.page.proofs.SlotLaws.{same-whole}

@@ -1,4 +1,4 @@
--- `tape::pages::spans_of` meets its contract: the spans are those made so far and those that are left.
+-- `page::content::spans_of` meets its contract: the spans are those made so far and those that are left.
 -- Assumes nothing.
 use mathlib.Core.Path.{_≡_, refl}
 use mathlib.Core.List.{_++_}

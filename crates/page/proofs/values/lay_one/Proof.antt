@@ -1,4 +1,4 @@
--- `tape::values::lay_one` meets its contract.
+-- `page::values::lay_one` meets its contract.
 -- Assumes nothing.
 use mathlib.Core.Path.{_≡_}
 use mathlib.Core.List.{List}

@@ -1,4 +1,4 @@
--- `tape::values::lay_slots` meets its contract: what is to be laid is what is laid and what the numbers that are left tell.
+-- `page::values::lay_slots` meets its contract: what is to be laid is what is laid and what the numbers that are left tell.
 -- Assumes nothing.
 use mathlib.Core.Path.{_≡_, refl, sym, ap, _∙_, subst}
 use mathlib.Core.List.{List, [], _∷_}

@@ -1,4 +1,4 @@
--- `tape::values::number_in` meets its contract.
+-- `page::values::number_in` meets its contract.
 -- Assumes nothing.
 use mathlib.Core.Path.{_≡_, ap, _∙_}
 use Prim.Native.Nat.{ℕ, _+_}

@@ -1,4 +1,4 @@
--- `tape::values::same_slots` meets its contract: the values that are left decide.
+-- `page::values::same_slots` meets its contract: the values that are left decide.
 -- Assumes nothing.
 use mathlib.Core.Path.{_≡_, refl, sym, ap, _∙_}
 use mathlib.Core.Bool.{Bool, true, false}

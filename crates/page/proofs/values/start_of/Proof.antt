@@ -1,4 +1,4 @@
--- `tape::values::start_of` meets its contract.
+-- `page::values::start_of` meets its contract.
 -- Assumes nothing.
 use borrow.Author.Tests.{eq-eqb, ne-eqb}
 use Rattle.page.proofs.values.start_of.Statement.{statement}

@@ -1,4 +1,4 @@
--- `tape::values::value_of` meets its contract: the value lies in the page or in the side room.
+-- `page::values::value_of` meets its contract: the value lies in the page or in the side room.
 -- Assumes nothing.
 use native.Mathlib.Omega.{arith}
 use Rattle.page.proofs.SlotLaws.{shown-page, shown-side}

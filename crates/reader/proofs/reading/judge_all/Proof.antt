@@ -1,4 +1,4 @@
--- `sheet::reading::judge_all` meets its contract: what is left of the answer is the answer for the pages that are left.
+-- `reader::reading::judge_all` meets its contract: what is left of the answer is the answer for the pages that are left.
 -- Assumes nothing.
 use mathlib.Core.Path.{_≡_, refl, sym, _∙_}
 use mathlib.Core.List.{List, _∷_}
