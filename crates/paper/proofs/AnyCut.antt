@@ -262,8 +262,8 @@ module _ {R : Type 0} (w : R → ℕ) (heading : R → Bool) (base limit : ℕ) 
   take_fit : {u k : ℕ} {l : List R} (n : ℕ) → Fit u l k → Fit u (take n l) k
   take_fit zero f = end
   take_fit (suc n) end = end
-  take_fit (suc n) (keep {r = r} a f) = keep {r = r} a (take_fit n f)
-  take_fit (suc n) (turn {r = r} a f) = turn {r = r} a (take_fit n f)
+  take_fit {u = u} (suc n) (keep {r = r} a f) = keep {r = r} a (take_fit {u = u + w r} n f)
+  take_fit (suc n) (turn {r = r} a f) = turn {r = r} a (take_fit {u = start r} n f)
 
   -- D
   place_take : (n : ℕ) (l : List R) (k u : ℕ) → place k u (take n l) ≤ place k u l

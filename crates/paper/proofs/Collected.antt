@@ -463,7 +463,7 @@ fed_any_order f g p q e = let r = fed g p (any_order f g p q e) in (r.0, r.2, r.
 -- what pages added one after another lead to is such a collector
 pub reached_all : {c : Collector} → Reached c → (ws : List (List ℕ)) → Reached (add_all c ws)
 reached_all r [] = r
-reached_all r (w ∷ ws) = reached_all (more w r) ws
+reached_all {c = c} r (w ∷ ws) = reached_all {c = (add c w).after} (more w r) ws
 
 -- ---- its refusals are those of reading
 

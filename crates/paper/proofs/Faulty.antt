@@ -72,6 +72,7 @@ module _ {A : Type 0} where
       at (inr n) = inr n
 
   in_left : {x : A} (a b : List A) → Among x a → Among x (a ++ b)
+  in_left [] b none = elim none [ ]
   in_left (y ∷ a) b first = first
   in_left (y ∷ a) b (behind m) = behind (in_left a b m)
 
@@ -116,6 +117,7 @@ unknown_in ls (n ∷ ns) e = at (elem n ls) refl e (unknown_in ls ns)
     at false q e ih = (n, first, λ a. no (sym (in_elem a) ∙ q))
 
 in_unknown : (ls : List (List ℕ)) {n : List ℕ} {ns : List (List ℕ)} → Among n ns → (Among n ls → ⊥) → every (λ m. elem m ls) ns ≡ false
+in_unknown ls {n = n} {ns = []} none f = elim none [ ]
 in_unknown ls {n} {ns = m ∷ ns} first f = at (elem n ls) refl
   where
     at : (b : Bool) → elem n ls ≡ b → (b && every (λ m. elem m ls) ns) ≡ false

@@ -160,10 +160,10 @@ eleven_found s l =
     r = number11 (s ∷ l) 1 s.of
 
     there : (j : ℕ) → Lacks (s ∷ l) 1 s.of j → Missing s l (suc j)
-    there j (h, x) = let e : 1 + j ≡ suc j = omega arith in (omega arith, omega arith, has_false (suc j) (s ∷ l) (rw e at x))
+    there j (h, x) = let e : 1 + j ≡ suc j = omega arith in (omega arith, omega arith, has_false (suc j) (s ∷ l) (ap (λ (n : ℕ). has n (s ∷ l)) (sym e) ∙ x))
 
     back : (j : ℕ) → Missing s l (suc j) → Lacks (s ∷ l) 1 s.of j
-    back j (a, b, q) = let e : 1 + j ≡ suc j = omega arith in (omega arith, rw e (at (has (suc j) (s ∷ l)) refl))
+    back j (a, b, q) = let e : 1 + j ≡ suc j = omega arith in (omega arith, ap (λ (n : ℕ). has n (s ∷ l)) e ∙ at (has (suc j) (s ∷ l)) refl)
       where
         at : (b : Bool) → has (suc j) (s ∷ l) ≡ b → b ≡ false
         at true e = let (k, u, x, y) = has_true (suc j) (s ∷ l) e in absurd (q k u x y)

@@ -72,6 +72,7 @@ least_among f (g ∷ gs) = at (lower_is f g).one_of (least_among (lower f g) gs)
 -- no fault of the list is lower than the least
 pub least_least : (f : Fault) (fs : List Fault) (g : Fault) → Among g (f ∷ fs) → NotLower g (least f fs)
 least_least f [] g here = not_lower_self f
+least_least f [] g (there none) = elim none [ ]
 least_least f (h ∷ hs) g here = not_lower_trans f (lower f h) (least (lower f h) hs) (lower_is f h).first (least_least (lower f h) hs (lower f h) here)
 least_least f (h ∷ hs) g (there here) = not_lower_trans h (lower f h) (least (lower f h) hs) (lower_is f h).second (least_least (lower f h) hs (lower f h) here)
 least_least f (h ∷ hs) g (there (there a)) = least_least (lower f h) hs g (there a)

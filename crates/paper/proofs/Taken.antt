@@ -107,6 +107,8 @@ f_ref lt H x = f_word (59 ∷ []) 116 (more H 108) x ∙ rw (append_assoc H.raw 
 f_ref gt H x = f_word (59 ∷ []) 116 (more H 103) x ∙ rw (append_assoc H.raw (103 ∷ []) (116 ∷ 59 ∷ []))
 f_ref quot H x = f_word (111 ∷ 116 ∷ 59 ∷ []) 117 (more H 113) x ∙ rw (append_assoc H.raw (113 ∷ []) (117 ∷ 111 ∷ 116 ∷ 59 ∷ []))
 f_ref apos H x = f_word (115 ∷ 59 ∷ []) 111 (more (more H 97) 112) x ∙ rw (append_assoc (H.raw ++ 97 ∷ []) (112 ∷ []) (111 ∷ 115 ∷ 59 ∷ []), append_assoc H.raw (97 ∷ []) (112 ∷ 111 ∷ 115 ∷ 59 ∷ []))
+f_ref (dec [] h) H x = elim h [ ]
+f_ref (hex [] h) H x = elim h [ ]
 f_ref (dec (c ∷ s) h) H x =
     let assoc : (35 ∷ ((c ∷ s) ++ 59 ∷ [])) ++ x ≡ 35 ∷ c ∷ (s ++ 59 ∷ x) = simp append_assoc in
     let start : scan (ref amp0 H) (35 ∷ c ∷ (s ++ 59 ∷ x)) ≡ scan (ref dec (more (more H 35) c)) (s ++ 59 ∷ x) = rw (h.0, scan) in
@@ -142,6 +144,7 @@ f_attrs : {b : Bool} {a : List ℕ} {l' : List Attr} → Attrs b a l' → (i : �
     → (b' : Bool) × (scan (gap b (opened i n l ns)) (a ++ x) ≡ scan (gap b' (opened i n (l ++ l') ns)) x)
 f_attrs (end {b = b}) i n l ns x = (b, rw (append-nil l))
 f_attrs (space e q) i n l ns x = let (b', p) = f_attrs q i n l ns x in (b', rw (e, scan) p)
+f_attrs (attr [] u v q r {w = w} {l = l'} none us vs k p o) i n l ns x = elim none [ ]
 f_attrs (attr (c ∷ m) u v q r {w = w} {l = l'} (e, h) us vs k p o) i n l ns x =
     let T : Open = opened i n l ns in
     let (b', y) = f_attrs o i n (l ++ record { name = c ∷ m; raw = r } ∷ []) ns x in
@@ -182,10 +185,12 @@ f_space (n ∷ ns) c w e = rw (e, scan)
 pub taken : {ns : List (List ℕ)} {w : List ℕ} {t : List Tag} → Rest ns w t → scan (up ns) w ≡ some t
 taken done = refl
 taken (space {ns = ns} {c = c} {w = w} e r) = f_space ns c w e ∙ taken r
+taken (bare {m = m} {ns = ns} [] a {l = l} {w = w} none p r) = elim none [ ]
 taken (bare {m = m} {ns = ns} (c ∷ n) a {l = l} {w = w} (e, h) p r) =
     let k : ℕ = length (60 ∷ ((c ∷ n) ++ (a ++ 47 ∷ 62 ∷ w))) in
     let first : scan (inside m ns) (60 ∷ ((c ∷ n) ++ (a ++ 47 ∷ 62 ∷ w))) ≡ scan (tag k (c ∷ []) (m ∷ ns)) (n ++ (a ++ 47 ∷ 62 ∷ w)) = rw (e, scan) in
     first ∙ f_bare c n h p k (m ∷ ns) w ∙ ap (prefix (start k (c ∷ n) l ∷ end ∷ [])) (taken r)
+taken (full {m = m} {ns = ns} [] a {l = l} {w = w} none p r) = elim none [ ]
 taken (full {m = m} {ns = ns} (c ∷ n) a {l = l} {w = w} (e, h) p r) =
     let k : ℕ = length (60 ∷ ((c ∷ n) ++ (a ++ 62 ∷ w))) in
     let first : scan (inside m ns) (60 ∷ ((c ∷ n) ++ (a ++ 62 ∷ w))) ≡ scan (tag k (c ∷ []) (m ∷ ns)) (n ++ (a ++ 62 ∷ w)) = rw (e, scan) in
@@ -194,10 +199,12 @@ taken (close {ns = ns} n u {w = w} h r) = f_closing n u h ns w ∙ ap (prefix (e
 
 pub taken_page : {w : List ℕ} {t : List Tag} → Page w t → scan before w ≡ some t
 taken_page (space e r) = rw (e, scan) (taken_page r)
+taken_page (bare [] a {l = l} {w = w} none p r) = elim none [ ]
 taken_page (bare (c ∷ n) a {l = l} {w = w} (e, h) p r) =
     let k : ℕ = length (60 ∷ ((c ∷ n) ++ (a ++ 47 ∷ 62 ∷ w))) in
     let first : scan before (60 ∷ ((c ∷ n) ++ (a ++ 47 ∷ 62 ∷ w))) ≡ scan (tag k (c ∷ []) []) (n ++ (a ++ 47 ∷ 62 ∷ w)) = rw (e, scan) in
     first ∙ f_bare c n h p k [] w ∙ ap (prefix (start k (c ∷ n) l ∷ end ∷ [])) (taken r)
+taken_page (full [] a {l = l} {w = w} none p r) = elim none [ ]
 taken_page (full (c ∷ n) a {l = l} {w = w} (e, h) p r) =
     let k : ℕ = length (60 ∷ ((c ∷ n) ++ (a ++ 62 ∷ w))) in
     let first : scan before (60 ∷ ((c ∷ n) ++ (a ++ 62 ∷ w))) ≡ scan (tag k (c ∷ []) []) (n ++ (a ++ 62 ∷ w)) = rw (e, scan) in
