@@ -3,7 +3,7 @@ ghost use Rattle.std.specs.Prelude.{◌≡◌};
 ghost use Rattle.cell.specs.Answers.{numbers_of, source_number};
 
 // Which buffer the text of a cell is a part of.
-#[derive(Drop)]
+#[derive(Clone, Copy)]
 pub enum Source {
     // The plan's text: the row has a value of its own.
     Plan,
@@ -15,7 +15,7 @@ pub enum Source {
 
 // What a cell shows: the buffer that its text is a part of, where the text begins there and how many bytes it has (0 and 0 with neither), whether "..."
 // follows, how many bytes of the whole text were left out, and whether 0 is printed.
-#[derive(Drop)]
+#[derive(Clone, Copy)]
 pub struct Shown {
     pub source: Source,
     pub at: usize,
@@ -26,7 +26,7 @@ pub struct Shown {
 }
 
 // What is answered.
-#[derive(Drop)]
+#[derive(Clone, Copy)]
 pub enum Answer {
     // The cell.
     Shown(Shown),

@@ -14,7 +14,7 @@ use plan::{Dose, Kind, Plan, Row, Span, Times, row_at};
 use room::{lies_in, wide};
 
 // Which cell of a row is asked for: the number of a field, and for substance and strength which of three.
-#[derive(Drop)]
+#[derive(Clone, Copy)]
 pub struct Field {
     pub number: u32,
     pub which: usize,
@@ -43,7 +43,7 @@ impl Field {
 
 // A cell as it is found in a plan's numbers: whether it is refused, the range of the plan's own value, the limit, and whether 0 is printed. A cell without
 // a limit is never cut and takes nothing from the catalogue. A refused cell has an absent value and no limit.
-#[derive(Drop)]
+#[derive(Clone, Copy)]
 pub struct Cell {
     pub refused: bool,
     pub own: Span,

@@ -15,7 +15,7 @@ use room::{lay, lies_in, spells};
 use sheet::judge::{Verdict, judge_page};
 
 // What is answered to a page.
-#[derive(Drop)]
+#[derive(Clone, Copy)]
 pub enum Answer {
     // The page is kept.
     Added,
@@ -26,7 +26,7 @@ pub enum Answer {
 }
 
 // The answer, and the collector afterwards.
-#[derive(Drop)]
+#[derive(Clone, Copy)]
 pub struct Adding {
     pub answer: Answer,
     pub collector: Collector,

@@ -5,7 +5,7 @@ ghost use Rattle.collector.specs.Keeping.{empty_collector, page_at, count_of};
 use plan::Plan;
 
 // A collector by value. The page of number n stands from (n - 1) * 1,400 on.
-#[derive(Drop)]
+#[derive(Clone, Copy)]
 pub struct Collector {
     // The pages.
     pub pages: [u8; Plan::PAGES],
@@ -18,7 +18,7 @@ pub struct Collector {
 }
 
 // What is kept for a number: the page, from `start` on in the collector's pages, or nothing.
-#[derive(Drop)]
+#[derive(Clone, Copy)]
 pub enum PageAt {
     Here { start: usize, len: usize },
     Missing(u8),

@@ -3,7 +3,7 @@ ghost use Rattle.std.specs.Prelude.{◌≡◌};
 ghost use Rattle.index.specs.Answers.{built_number, reply_number, nth_number};
 
 // What building answers.
-#[derive(Drop)]
+#[derive(Clone, Copy)]
 pub enum Built {
     // The call is not well made: more rows than lent or than a plan has, or too little room.
     NoRoom,
@@ -12,7 +12,7 @@ pub enum Built {
 }
 
 // What is answered about a package number.
-#[derive(Drop)]
+#[derive(Clone, Copy)]
 pub enum Reply {
     // The call is not well made: more rows than lent or than a plan has, more pairs than lent, or too little room.
     NoRoom,
@@ -25,7 +25,7 @@ pub enum Reply {
 }
 
 // What is answered about the k-th row of a package number.
-#[derive(Drop)]
+#[derive(Clone, Copy)]
 pub enum Nth {
     // The call is not well made.
     NoRoom,

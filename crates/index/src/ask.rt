@@ -12,7 +12,7 @@ use crate::pairs::{ahead_of, comes_before};
 use plan::Plan;
 
 // Where the pairs of a number stand in the index, and how many there are; or the refusal.
-#[derive(Drop)]
+#[derive(Clone, Copy)]
 pub enum Found {
     NoRoom,
     OtherIndex,

@@ -13,7 +13,7 @@ use reader::answer::Answer;
 use reader::reading::Reading;
 
 // What reading with the index gives: the reading, and how many pairs the index has; none where the answer is a refusal.
-#[derive(Drop)]
+#[derive(Clone, Copy)]
 pub struct Indexed {
     pub reading: Reading,
     pub pairs: u32,

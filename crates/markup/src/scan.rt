@@ -6,7 +6,7 @@ ghost use Rattle.markup.specs.Extent.{extent_of, behind_at};
 use crate::tables::{AFTER, BARE, CLOSE, CLOSING, GROW, INSIDE, KINDS, NEXT, PUSH, SLASH, TAG, UP};
 
 // How far a page is good.
-#[derive(Drop)]
+#[derive(Clone, Copy)]
 pub enum Extent {
     // The page is well-formed.
     Whole,

@@ -8,7 +8,7 @@ ghost use Rattle.markup.specs.Decoding.{digit_in, numeral_in, capped, named_of, 
 use room::{lay, spells};
 
 // Where in a raw value: in its text, behind a byte 13, or in a reference whose first byte behind the `&` stands there.
-#[derive(Drop)]
+#[derive(Clone, Copy)]
 enum Place {
     Text,
     Cr,
@@ -16,7 +16,7 @@ enum Place {
 }
 
 // What one byte of a raw value gives, 256 for nothing, and where it leads.
-#[derive(Drop)]
+#[derive(Clone, Copy)]
 struct Given {
     out: u16,
     to: Place,

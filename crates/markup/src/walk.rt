@@ -9,7 +9,7 @@ ghost use Rattle.markup.specs.Walk.{is_middle, passes, inside_at, tags_at, first
 use room::byte_or;
 
 // A page's next tag.
-#[derive(Drop)]
+#[derive(Clone, Copy)]
 pub enum Mark {
     // A start tag: its `<` stands at `at`, its name behind that up to `name_end`, and there its attributes begin.
     Start { at: usize, name_end: usize },
@@ -20,7 +20,7 @@ pub enum Mark {
 }
 
 // What stands next in a start tag.
-#[derive(Drop)]
+#[derive(Clone, Copy)]
 pub enum Piece {
     // An attribute: where its name begins and ends, and the bytes between its quotes. The next piece begins one byte behind `raw_end`.
     Attribute {

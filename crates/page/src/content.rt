@@ -27,7 +27,7 @@ pub const HEADER: usize = 3;
 const NEXT: usize = 2;
 
 // Where the parts of a page's head lie on the tape.
-#[derive(Drop)]
+#[derive(Clone, Copy)]
 pub struct Places {
     pub mp: usize,
     pub person: usize,
@@ -36,7 +36,7 @@ pub struct Places {
 }
 
 // A head laid into the text: the place behind its values, the patch, and the spans of its fields in writing order.
-#[derive(Drop)]
+#[derive(Clone, Copy)]
 pub struct HeadLaid {
     pub end: usize,
     pub patch: u32,
@@ -44,7 +44,7 @@ pub struct HeadLaid {
 }
 
 // How far the rows of a page reach: the place in the text behind their values, and the row behind the last of them.
-#[derive(Drop)]
+#[derive(Clone, Copy)]
 pub struct Filled {
     pub end: usize,
     pub row: usize,

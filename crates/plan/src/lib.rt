@@ -9,14 +9,14 @@ ghost use Rattle.plan.specs.Records.{paper_kind, code_kind, code_span_in, dose_f
 use room::lay_numbers;
 
 // A value in the text: its start and its length. It is absent exactly when the length is 0.
-#[derive(Drop)]
+#[derive(Clone, Copy)]
 pub struct Span {
     pub at: u32,
     pub len: u32,
 }
 
 // The four times of day of a dose, each a value of its own.
-#[derive(Drop)]
+#[derive(Clone, Copy)]
 pub struct Times {
     pub morning: Span,
     pub midday: Span,
@@ -25,7 +25,7 @@ pub struct Times {
 }
 
 // A row's dose: four times of day of which at least one is present, or one free text, or not stated.
-#[derive(Drop)]
+#[derive(Clone, Copy)]
 pub enum Dose {
     Scheme(Times),
     Free(Span),
@@ -34,7 +34,7 @@ pub enum Dose {
 
 // What a row is. A number that stands for no kind is Unknown, as an element that has no place in a plan is document 01's `unknown`:
 // a record can then always be taken apart, and the rules for a sound row refuse it.
-#[derive(Drop)]
+#[derive(Clone, Copy)]
 pub enum Kind {
     Heading,
     Medication,
@@ -44,7 +44,7 @@ pub enum Kind {
 }
 
 // A row taken apart: its kind, its package number (0: none), its dose, and its other values in writing order.
-#[derive(Drop)]
+#[derive(Clone, Copy)]
 pub struct Row {
     pub kind: Kind,
     pub package: u32,
@@ -53,7 +53,7 @@ pub struct Row {
 }
 
 // A plan by value: the patch, how many rows there are, and the head's values in writing order. Rows and text are lent beside it.
-#[derive(Drop)]
+#[derive(Clone, Copy)]
 pub struct Plan {
     pub patch: u32,
     pub rows: u32,

@@ -27,7 +27,7 @@ const NO_FAULT: u8 = 9;
 
 // A start tag taken: the place of its `>` or `/` (0: it is not surely fine), how many bytes of the side room are in use, where the next element begins on
 // the tape, and whether the element needs a W.
-#[derive(Drop)]
+#[derive(Clone, Copy)]
 pub struct Tag {
     pub at: usize,
     pub used: usize,
@@ -104,7 +104,7 @@ pub fn take_tag(
 
 // A start tag passed: the place behind it (0: it is not surely fine), where the next element begins on the tape, how many bytes of the side room are in use,
 // and what is then known of the page.
-#[derive(Drop)]
+#[derive(Clone, Copy)]
 struct Step {
     at: usize,
     next: usize,
@@ -257,7 +257,7 @@ fn take_root(
 }
 
 // A page made: where its elements end on the tape (0: it is not surely a sheet), and how many bytes of the side room are then in use.
-#[derive(Drop)]
+#[derive(Clone, Copy)]
 pub struct Made {
     pub end: usize,
     pub used: usize,

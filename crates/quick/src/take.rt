@@ -18,7 +18,7 @@ use quoted::value::take_value;
 use room::{byte_or, clear};
 
 // An attribute's name and opening quote: the place of its field among its element's, where its value begins (0: it is not surely fine), and the quote.
-#[derive(Drop)]
+#[derive(Clone, Copy)]
 struct Named {
     field: usize,
     at: usize,
@@ -26,7 +26,7 @@ struct Named {
 }
 
 // How far attributes are read: the place behind them (0: one is not surely fine), and how many bytes of the side room are then in use.
-#[derive(Drop)]
+#[derive(Clone, Copy)]
 pub struct Taken {
     pub at: usize,
     pub used: usize,

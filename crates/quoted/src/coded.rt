@@ -12,14 +12,14 @@ use markup::values::refers;
 use room::{byte_or, lay};
 
 // What an odd byte, or a reference that begins with one, stands for, and the place behind it (0: it is not surely fine).
-#[derive(Drop)]
+#[derive(Clone, Copy)]
 struct Odd {
     next: usize,
     byte: u8,
 }
 
 // A value decoded: its closing quote (0: it is not surely fine), where it ends in the side room, and how many line breaks it has.
-#[derive(Drop)]
+#[derive(Clone, Copy)]
 pub struct Coded {
     pub quote: usize,
     pub end: usize,

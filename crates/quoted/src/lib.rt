@@ -14,7 +14,7 @@ ghost use Rattle.quoted.specs.Plain.{ordinary, odd_table, Plainly};
 use odd::ODD;
 
 // The closing quote of a value, and where the value ends once its trailing blanks are cut.
-#[derive(Drop)]
+#[derive(Clone, Copy)]
 pub struct Plain {
     pub quote: usize,
     pub end: usize,

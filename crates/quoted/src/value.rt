@@ -22,7 +22,7 @@ use fields::rules::keeps_form;
 pub const ASIDE: usize = 32768;
 
 // A value judged: its closing quote (0: it is not surely fine), its two numbers for the tape, and how many bytes of the side room are then in use.
-#[derive(Drop)]
+#[derive(Clone, Copy)]
 pub struct Judged {
     pub quote: usize,
     pub start: usize,

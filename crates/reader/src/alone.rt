@@ -12,7 +12,7 @@ use plan::Plan;
 use tape::exact::lay_page;
 
 // The number of a page, and how many there are, as it says.
-#[derive(Drop)]
+#[derive(Clone, Copy)]
 pub struct Said {
     pub no: u8,
     pub of: u8,

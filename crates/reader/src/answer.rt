@@ -4,7 +4,7 @@ ghost use Rattle.paper.specs.Reading.{numbers};
 ghost use Rattle.reader.specs.Answers.{numbers_of, PageRefusal};
 
 // What reading answers. A page is counted from 1 in the order handed in; a place is the offset of a byte in its page.
-#[derive(Drop)]
+#[derive(Clone, Copy)]
 pub enum Answer {
     // The pages are a plan.
     Plan,

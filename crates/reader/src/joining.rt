@@ -18,7 +18,7 @@ use page::content::{
 use plan::Plan;
 
 // The first page whose head or count is another than the first page's (0 if there is none), the count, and the number of each page.
-#[derive(Drop)]
+#[derive(Clone, Copy)]
 pub struct Compared {
     pub other: usize,
     pub count: u8,

@@ -20,7 +20,7 @@ use room::clear;
 use sheet::judge::{Verdict, judge_page};
 
 // What reading gives: the answer, and the plan by value. The plan is empty where the answer is a refusal.
-#[derive(Drop)]
+#[derive(Clone, Copy)]
 pub struct Reading {
     pub answer: Answer,
     pub plan: Plan,

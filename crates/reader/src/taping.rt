@@ -31,7 +31,7 @@ pub const TWO: usize = BLANKS + 2 * PAGE;
 pub const NINE: usize = BLANKS + 9 * PAGE;
 
 // The pages of a call on a tape: whether all are, and where each begins.
-#[derive(Drop)]
+#[derive(Clone, Copy)]
 pub struct Taping {
     pub all: bool,
     pub firsts: [usize; 10],

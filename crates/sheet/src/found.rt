@@ -14,7 +14,7 @@ use markup::walk::{Piece, next_attr};
 use room::clear;
 
 // What stands in a start tag: whether an attribute is unknown or stands twice, and else whether the tag closes itself.
-#[derive(Drop)]
+#[derive(Clone, Copy)]
 pub struct Found {
     pub strange: bool,
     pub shut: bool,

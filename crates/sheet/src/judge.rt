@@ -17,7 +17,7 @@ use markup::walk::{Mark, next_tag};
 use plan::Plan;
 
 // The answer for a page.
-#[derive(Drop)]
+#[derive(Clone, Copy)]
 pub enum Verdict {
     // The page is refused: with the lowest number of its faults, at the lowest place within it.
     Refused { number: u8, place: u16 },

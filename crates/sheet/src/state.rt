@@ -18,14 +18,14 @@ const OUTERMOST: u8 = 10;
 const NONE: u8 = 9;
 
 // A refusal: its number and its place.
-#[derive(Drop)]
+#[derive(Clone, Copy)]
 pub struct Refusal {
     pub number: u8,
     pub place: u16,
 }
 
 // What is known of a page behind some of its tags.
-#[derive(Drop)]
+#[derive(Clone, Copy)]
 pub struct State {
     // The innermost open element, 0 if none is open.
     pub cur: u8,

@@ -18,7 +18,7 @@ use markup::walk::{Mark, next_tag};
 use sheet::found::find;
 
 // Where the next page begins on the tape, and how many bytes of the side room are then in use.
-#[derive(Drop)]
+#[derive(Clone, Copy)]
 pub struct Made {
     pub end: usize,
     pub used: usize,

@@ -14,7 +14,7 @@ use room::lay;
 
 // What a printed cell gives: the number, page and place of a refusal, all 0 for a cell; where its text comes from, 1 the plan, 2 the catalogue, 0 neither; how many
 // bytes the text has, whether "..." follows, how many bytes were left out, and whether 0 is printed. A refusal has 0 and false for all of these.
-#[derive(Drop)]
+#[derive(Clone, Copy)]
 pub struct CellShown {
     pub number: u32,
     pub page: u32,

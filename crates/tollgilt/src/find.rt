@@ -10,7 +10,7 @@ use plan::Plan;
 use reader::answer::{Answer, refusal_number};
 
 // What finding gives: the answer, and how many rows hold the number. They are 0 where the answer is a refusal.
-#[derive(Drop)]
+#[derive(Clone, Copy)]
 pub struct Found {
     pub answer: Answer,
     pub rows: u32,

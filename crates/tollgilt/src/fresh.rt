@@ -11,7 +11,7 @@ use writer::writing::write;
 
 // What writing afresh gives: the number, page and place of a refusal, all 0 for pages; the number of pages, and the length of each. A refusal has no pages;
 // lengths of pages that are not there are 0.
-#[derive(Drop)]
+#[derive(Clone, Copy)]
 pub struct Fresh {
     pub number: u32,
     pub page: u32,

@@ -47,7 +47,7 @@ pub const CELL_ASKING: usize = 28 + CATALOGUE + INPUT;
 pub const CELL_LINES: usize = 38 + Cell::SUBSTANCE;
 
 // What is printed for an input.
-#[derive(Drop)]
+#[derive(Clone, Copy)]
 pub enum Printed {
     // So many bytes, at the beginning of the lent room.
     Bytes(usize),
@@ -66,7 +66,7 @@ pub fn printed_len(a: Printed) -> usize
 }
 
 // The pages of an input, as they are handed in: how many there are, where they begin, and how long they are. Of more than ten, the first ten.
-#[derive(Drop)]
+#[derive(Clone, Copy)]
 pub struct Parts {
     pub pages: usize,
     pub starts: [usize; 10],
@@ -168,7 +168,7 @@ pub fn fresh_input(input: &[u8], out: &mut [u8]) -> Printed
 }
 
 // What an input asks for.
-#[derive(Drop)]
+#[derive(Clone, Copy)]
 pub enum Question {
     // No number: there is no zero byte, or not one to eight digits before the first.
     None,

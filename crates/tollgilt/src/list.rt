@@ -8,7 +8,7 @@ use reader::answer::{Answer, refusal_number};
 use reader::reading::read;
 
 // What listing gives: the answer, and the length of the listing. The length is 0 where the answer is a refusal.
-#[derive(Drop)]
+#[derive(Clone, Copy)]
 pub struct Listed {
     pub answer: Answer,
     pub length: u32,

@@ -15,7 +15,7 @@ use collector::store::Collector;
 use libc::{STDIN_FILENO, STDOUT_FILENO};
 
 // A turn: whether a command is answered, and the collector afterwards.
-#[derive(Drop)]
+#[derive(Clone, Copy)]
 struct Turn {
     more: bool,
     collector: Collector,

@@ -3,7 +3,7 @@ ghost use Rattle.std.specs.Prelude.{◌≡◌};
 ghost use Rattle.writer.specs.Answers.{numbers_of};
 
 // What writing answers. A row is counted from 1; 0 stands for the head.
-#[derive(Drop)]
+#[derive(Clone, Copy)]
 pub enum Outcome {
     // The plan is written as pages.
     Pages,

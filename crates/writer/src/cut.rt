@@ -7,7 +7,7 @@ use plan::Plan;
 
 // The pages of a cut: how many there are, and for each how many rows are placed where it ends. Where nine pages do not take all rows, `place` is the
 // first row, counted from 1, that has no place, and there are no pages; else it is 0.
-#[derive(Drop)]
+#[derive(Clone, Copy)]
 pub struct PageEnds {
     pub pages: usize,
     pub ends: [usize; 9],

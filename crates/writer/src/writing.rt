@@ -23,7 +23,7 @@ use plan::{Plan, kind_at};
 use sound::{first_bad, head_sound};
 
 // What writing gives: the answer, the number of pages, and the length of each. A refusal has no pages; lengths of pages that are not there are 0.
-#[derive(Drop)]
+#[derive(Clone, Copy)]
 pub struct Writing {
     pub answer: Outcome,
     pub pages: u32,
