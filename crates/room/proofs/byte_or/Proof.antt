@@ -6,14 +6,14 @@ use borrow.Author.Rules.{rules}
 use Rattle.room.proofs.byte_or.Statement.{statement}
 use Rattle.room.proofs.byte_or.Tie as tie
 
-shared-slice-read-result : tie.Need-shared-slice-read-result
+shared-slice-read-result : tie.Need-bounds-s-i
 shared-slice-read-result c = search rules
 
-returns : tie.Need-returns
+returns : tie.Need-returns-then-i-s
 returns c = search rules
 
-returns-2 : tie.Need-returns-2
-returns-2 c = sym (get_or-eq_default c.before.args.s.now 0 c.if1.false)
+returns-2 : tie.Need-returns
+returns-2 c = sym (get_or-eq_default c.before.args.s.now 0 c.if-i-s.false)
 
-pub byte-or-spec : {M : Type 1} → statement M
-byte-or-spec = tie.close (tie.spec shared-slice-read-result returns returns-2)
+pub byte_or_spec : {M : Type 1} → statement M
+byte_or_spec = tie.close (tie.spec shared-slice-read-result returns returns-2)

@@ -8,50 +8,50 @@ use borrow.Author.Rules.{rules}
 use Rattle.room.proofs.lay_numbers.Statement.{statement}
 use Rattle.room.proofs.lay_numbers.Tie as tie
 
-abbrev invariant-loop : tie.invariant-loop
+abbrev invariant-loop : tie.invariant-loop-i
 invariant-loop out₀ n numbers i₀ out i = (i ≤ length numbers) × Laying out₀ out n (n + i) numbers (drop i numbers)
 
-abbrev decreases-loop : tie.decreases-loop
+abbrev decreases-loop : tie.decreases-loop-i
 decreases-loop out₀ n numbers i₀ out i = length numbers - i
 
-loop-holds : tie.Need-loop-init invariant-loop decreases-loop
+loop-holds : tie.Need-loop-i-init invariant-loop decreases-loop
 loop-holds c = (search rules, start_at c.args.out.now c.args.n _ (search rules))
 
-mul-out : tie.Need-overflow-mul-out invariant-loop decreases-loop
+mul-out : tie.Need-offset_bounds-numbers-i invariant-loop decreases-loop
 mul-out c = search rules
 
-shared-slice-read-out : tie.Need-shared-slice-read-out invariant-loop decreases-loop
+shared-slice-read-out : tie.Need-bounds-numbers-i invariant-loop decreases-loop
 shared-slice-read-out c = search rules
 
-add-out : tie.Need-overflow-add-out invariant-loop decreases-loop
+add-out : tie.Need-overflow_add-out invariant-loop decreases-loop
 add-out c = search rules
 
-mul-out-2 : tie.Need-overflow-mul-out-2 invariant-loop decreases-loop
+mul-out-2 : tie.Need-offset_bounds-out-n invariant-loop decreases-loop
 mul-out-2 c = search rules
 
-slice-write-out : tie.Need-slice-write-out invariant-loop decreases-loop
+slice-write-out : tie.Need-bounds-out-n invariant-loop decreases-loop
 slice-write-out c = search rules
 
-add-i : tie.Need-overflow-add-i invariant-loop decreases-loop
+add-i : tie.Need-overflow_add-i invariant-loop decreases-loop
 add-i c = search rules
 
-loop-less : tie.Need-loop-smaller invariant-loop decreases-loop
+loop-less : tie.Need-loop-i-smaller invariant-loop decreases-loop
 loop-less c = search rules
 
-loop-again : tie.Need-loop-preserved invariant-loop decreases-loop
-loop-again c = let L = c.before.before in (search rules, word_turn L.before.requires (search rules) L.loop.invariant.1)
+loop-again : tie.Need-loop-i-preserved invariant-loop decreases-loop
+loop-again c = let L = c.before.before in (search rules, word_turn L.before.requires (search rules) L.loop-i.invariant.1)
 
-same_length : tie.Need-same-length invariant-loop decreases-loop
+same_length : tie.Need-shape_of-out invariant-loop decreases-loop
 same_length c = search rules
 
 returns : tie.Need-returns invariant-loop decreases-loop
 returns c =
     let L = c.before in
-    let e : L.loop.i ≡ length L.before.args.numbers.now = search rules in
-    (all_laid (search rules) (told L.loop.invariant.1 (drop_of_length-le _ c.loop-test.false))).1
+    let e : L.loop-i.i ≡ length L.before.args.numbers.now = search rules in
+    (all_laid (search rules) (told L.loop-i.invariant.1 (drop_of_length-le _ c.loop-i-test.false))).1
 
-pub lay-numbers-spec : {M : Type 1} → statement M
-lay-numbers-spec =
+pub lay_numbers_spec : {M : Type 1} → statement M
+lay_numbers_spec =
     tie.close
     (tie.spec
     invariant-loop

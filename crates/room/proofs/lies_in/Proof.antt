@@ -18,11 +18,11 @@ lies size start len h = at (leb len (size - start)) refl
     at true e = let l = leb-true len (size - start) e in e ∙ sym (le-leb (start + len) size (omega arith))
     at false e = let l = leb-false len (size - start) e in e ∙ sym (lt-leb (start + len) size (omega arith))
 
-returns : tie.Need-returns
+returns : tie.Need-returns-then-start-size
 returns c = let a = c.before.args in sym (lt-leb (a.start + a.len) a.size (omega arith))
 
-returns-2 : tie.Need-returns-2
+returns-2 : tie.Need-returns
 returns-2 c = let a = c.before.args in lies a.size a.start a.len (search rules)
 
-pub lies-in-spec : {M : Type 1} → statement M
-lies-in-spec = tie.close (tie.spec returns returns-2)
+pub lies_in_spec : {M : Type 1} → statement M
+lies_in_spec = tie.close (tie.spec returns returns-2)
