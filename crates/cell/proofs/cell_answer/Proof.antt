@@ -9,26 +9,26 @@ use borrow.Author.Rules.{rules}
 use Rattle.cell.proofs.cell_answer.Statement.{statement}
 use Rattle.cell.proofs.cell_answer.Tie as tie
 
-find-requires : tie.Need-find-requires
+find-requires : tie.Need-find-c-requires
 find-requires c κs = search rules
 
-returns : tie.Need-returns
+returns : tie.Need-returns-then-c
 returns c =
     let F = c.before in
     let a = F.before.before.before.before.args in
-    refuses a.rows.now a.count a.text.now a.catalogue.now a.row a.field a.which F.find.result F.find.ensures c.if1.true
+    refuses a.rows.now a.count a.text.now a.catalogue.now a.row a.field a.which F.find-c.result F.find-c.ensures c.if-c.true
 
-shown-requires : tie.Need-shown-requires
+shown-requires : tie.Need-shown-s-requires
 shown-requires c κs =
     let F = c.before in
     let a = F.before.before.before.before.args in
-    roomy a.rows.now a.count a.text.now a.catalogue.now a.row a.field a.which F.find.result F.find.ensures
+    roomy a.rows.now a.count a.text.now a.catalogue.now a.row a.field a.which F.find-c.result F.find-c.ensures
 
-returns-2 : tie.Need-returns-2
+returns-2 : tie.Need-returns
 returns-2 c =
     let F = c.before.before in
     let a = F.before.before.before.before.args in
-    ap (λ (s : Told.Shown). values_of (Shown s)) c.shown.ensures ∙ showing a.rows.now a.count a.text.now a.catalogue.now a.row a.field a.which F.find.result F.find.ensures c.before.if1.false
+    ap (λ (s : Told.Shown). values_of (Shown s)) c.shown-s.ensures ∙ showing a.rows.now a.count a.text.now a.catalogue.now a.row a.field a.which F.find-c.result F.find-c.ensures c.before.if-c.false
 
-pub cell-answer-spec : {M : Type 1} → statement M
-cell-answer-spec = tie.close (tie.spec find-requires returns shown-requires returns-2)
+pub cell_answer_spec : {M : Type 1} → statement M
+cell_answer_spec = tie.close (tie.spec find-requires returns shown-requires returns-2)

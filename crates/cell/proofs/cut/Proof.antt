@@ -14,21 +14,21 @@ use Rattle.cell.proofs.cut.Tie as tie
 whole-requires : tie.Need-whole-requires
 whole-requires c κs = search rules
 
-returns : tie.Need-returns
-returns c = c.whole.ensures ∙ rw (le-leb _ _ c.before.if1.true)
+returns : tie.Need-returns-then-len-limit
+returns c = c.whole.ensures ∙ rw (le-leb _ _ c.before.if-len-limit.true)
 
-shown-of-requires : tie.Need-shown-of-requires
+shown-of-requires : tie.Need-shown_of-shown-requires
 shown-of-requires c κs = search rules
 
-sub-t8 : tie.Need-overflow-sub-t8
+sub-t8 : tie.Need-overflow_sub-result
 sub-t8 c =
     let a = c.before.before.before.args in
     let v = drop a.at a.buffer.now in
     let near = (begins_near a.limit v (shown_of a.limit v) (begins a.limit v)).0 in
-    omega (arith, near, c.Shown-of.ensures, c.before.if1.false)
+    omega (arith, near, c.Shown-of.ensures, c.before.if-len-limit.false)
 
-returns-2 : tie.Need-returns-2
-returns-2 c = rw (c.Shown-of.ensures, lt-leb _ _ c.before.if1.false)
+returns-2 : tie.Need-returns
+returns-2 c = rw (c.Shown-of.ensures, lt-leb _ _ c.before.if-len-limit.false)
 
 pub cut_spec : {M : Type 1} → statement M
 cut_spec = tie.close (tie.spec whole-requires returns shown-of-requires sub-t8 returns-2)

@@ -7,5 +7,5 @@ use Rattle.cell.proofs.dose_cell.Tie as tie
 returns : tie.Need-returns
 returns c = refl
 
-pub dose-cell-spec : {M : Type 1} → statement M
-dose-cell-spec = tie.close (tie.spec returns)
+pub dose_cell_spec : {M : Type 1} → statement M
+dose_cell_spec = tie.close (tie.spec returns)

@@ -18,74 +18,74 @@ of_number r i k e = ap (λ (n : ℕ). field_found r (field_of n i)) (sym e)
 of-time : (r : Row) {n : ℕ} (k : ℕ) → n ≡ k → time_found (time_of n) r.dose ≡ time_found (time_of k) r.dose
 of-time r k e = ap (λ (n : ℕ). time_found (time_of n) r.dose) e
 
-array-copy-out-text-cell : tie.Need-array-copy-out-text-cell
+array-copy-out-text-cell : tie.Need-bounds-texts-0
 array-copy-out-text-cell c = search rules
 
-text-cell-requires : tie.Need-text-cell-requires
+text-cell-requires : tie.Need-text_cell-requires
 text-cell-requires c κs = search rules
 
-returns : tie.Need-returns
-returns c = let a = c.before.before.before.before.args in c.text-cell.ensures ∙ of_number a.row a.f.which 1 c.before.before.if1.true
+returns : tie.Need-returns-then-number-eq-NAME
+returns c = let a = c.before.before.before.before.args in c.text_cell.ensures ∙ of_number a.row a.f.which 1 c.before.before.if-number-eq-NAME.true
 
-three-cell-requires : tie.Need-three-cell-requires
+three-cell-requires : tie.Need-three_cell-requires
 three-cell-requires c κs = search rules
 
-returns-2 : tie.Need-returns-2
-returns-2 c = let a = c.before.before.before.before.args in c.three-cell.ensures ∙ of_number a.row a.f.which 2 c.before.if2.true
+returns-2 : tie.Need-returns-then-number-eq-SUBSTANCE
+returns-2 c = let a = c.before.before.before.before.args in c.three_cell.ensures ∙ of_number a.row a.f.which 2 c.before.if-number-eq-SUBSTANCE.true
 
-three-cell-requires-2 : tie.Need-three-cell-requires-2
+three-cell-requires-2 : tie.Need-three_cell-requires-then-number-eq-STRENGTH
 three-cell-requires-2 c κs = search rules
 
-returns-3 : tie.Need-returns-3
-returns-3 c = let a = c.before.before.before.before.before.args in c.three-cell2.ensures ∙ of_number a.row a.f.which 3 c.before.if3.true
+returns-3 : tie.Need-returns-then-number-eq-STRENGTH
+returns-3 c = let a = c.before.before.before.before.before.args in c.three_cell-then-number-eq-STRENGTH.ensures ∙ of_number a.row a.f.which 3 c.before.if-number-eq-STRENGTH.true
 
-array-copy-out-text-cell-2 : tie.Need-array-copy-out-text-cell-2
+array-copy-out-text-cell-2 : tie.Need-bounds-texts-2
 array-copy-out-text-cell-2 c = search rules
 
-text-cell-requires-2 : tie.Need-text-cell-requires-2
+text-cell-requires-2 : tie.Need-text_cell-requires-then-number-eq-FORM
 text-cell-requires-2 c κs = search rules
 
-returns-4 : tie.Need-returns-4
-returns-4 c = let a = c.before.before.before.before.before.before.before.args in c.text-cell2.ensures ∙ of_number a.row a.f.which 4 c.before.before.if4.true
+returns-4 : tie.Need-returns-then-number-eq-FORM
+returns-4 c = let a = c.before.before.before.before.before.before.before.args in c.text_cell-then-number-eq-FORM.ensures ∙ of_number a.row a.f.which 4 c.before.before.if-number-eq-FORM.true
 
-time-cell-requires : tie.Need-time-cell-requires
+time-cell-requires : tie.Need-time_cell-requires
 time-cell-requires c κs = search rules
 
-returns-5 : tie.Need-returns-5
-returns-5 c = let a = c.before.before.before.before.before.before.before.args in let e = c.before.if5.true in c.time-cell.ensures ∙ of-time a.row 5 e ∙ of_number a.row a.f.which 5 e
+returns-5 : tie.Need-returns-then-number-eq-MORNING
+returns-5 c = let a = c.before.before.before.before.before.before.before.args in let e = c.before.if-number-eq-MORNING.true in c.time_cell.ensures ∙ of-time a.row 5 e ∙ of_number a.row a.f.which 5 e
 
-time-cell-requires-2 : tie.Need-time-cell-requires-2
+time-cell-requires-2 : tie.Need-time_cell-requires-then-number-eq-MIDDAY
 time-cell-requires-2 c κs = search rules
 
-returns-6 : tie.Need-returns-6
-returns-6 c = let a = c.before.before.before.before.before.before.before.before.args in let e = c.before.if6.true in c.time-cell2.ensures ∙ of-time a.row 6 e ∙ of_number a.row a.f.which 6 e
+returns-6 : tie.Need-returns-then-number-eq-MIDDAY
+returns-6 c = let a = c.before.before.before.before.before.before.before.before.args in let e = c.before.if-number-eq-MIDDAY.true in c.time_cell-then-number-eq-MIDDAY.ensures ∙ of-time a.row 6 e ∙ of_number a.row a.f.which 6 e
 
-time-cell-requires-3 : tie.Need-time-cell-requires-3
+time-cell-requires-3 : tie.Need-time_cell-requires-then-number-eq-EVENING
 time-cell-requires-3 c κs = search rules
 
-returns-7 : tie.Need-returns-7
-returns-7 c = let a = c.before.before.before.before.before.before.before.before.before.args in let e = c.before.if7.true in c.time-cell3.ensures ∙ of-time a.row 7 e ∙ of_number a.row a.f.which 7 e
+returns-7 : tie.Need-returns-then-number-eq-EVENING
+returns-7 c = let a = c.before.before.before.before.before.before.before.before.before.args in let e = c.before.if-number-eq-EVENING.true in c.time_cell-then-number-eq-EVENING.ensures ∙ of-time a.row 7 e ∙ of_number a.row a.f.which 7 e
 
-time-cell-requires-4 : tie.Need-time-cell-requires-4
+time-cell-requires-4 : tie.Need-time_cell-requires-then-number-eq-NIGHT
 time-cell-requires-4 c κs = search rules
 
-returns-8 : tie.Need-returns-8
-returns-8 c = let a = c.before.before.before.before.before.before.before.before.before.before.args in let e = c.before.if8.true in c.time-cell4.ensures ∙ of-time a.row 8 e ∙ of_number a.row a.f.which 8 e
+returns-8 : tie.Need-returns-then-number-eq-NIGHT
+returns-8 c = let a = c.before.before.before.before.before.before.before.before.before.before.args in let e = c.before.if-number-eq-NIGHT.true in c.time_cell-then-number-eq-NIGHT.ensures ∙ of-time a.row 8 e ∙ of_number a.row a.f.which 8 e
 
-free-cell-requires : tie.Need-free-cell-requires
+free-cell-requires : tie.Need-free_cell-requires
 free-cell-requires c κs = search rules
 
-returns-9 : tie.Need-returns-9
-returns-9 c = let a = c.before.before.before.before.before.before.before.before.before.before.before.args in c.free-cell.ensures ∙ of_number a.row a.f.which 9 c.before.if9.true
+returns-9 : tie.Need-returns-then-number-eq-FREE_DOSE
+returns-9 c = let a = c.before.before.before.before.before.before.before.before.before.before.before.args in c.free_cell.ensures ∙ of_number a.row a.f.which 9 c.before.if-number-eq-FREE_DOSE.true
 
 none-requires : tie.Need-none-requires
 none-requires c κs = search rules
 
-returns-10 : tie.Need-returns-10
-returns-10 c = c.none.ensures ∙ simp (ne_eqb _ 1 c.before.before.before.before.before.before.before.before.before.if1.false, ne_eqb _ 2 c.before.before.before.before.before.before.before.before.if2.false, ne_eqb _ 3 c.before.before.before.before.before.before.before.if3.false, ne_eqb _ 4 c.before.before.before.before.before.before.if4.false, ne_eqb _ 5 c.before.before.before.before.before.if5.false, ne_eqb _ 6 c.before.before.before.before.if6.false, ne_eqb _ 7 c.before.before.before.if7.false, ne_eqb _ 8 c.before.before.if8.false, ne_eqb _ 9 c.before.if9.false)
+returns-10 : tie.Need-returns
+returns-10 c = c.none.ensures ∙ simp (ne_eqb _ 1 c.before.before.before.before.before.before.before.before.before.if-number-eq-NAME.false, ne_eqb _ 2 c.before.before.before.before.before.before.before.before.if-number-eq-SUBSTANCE.false, ne_eqb _ 3 c.before.before.before.before.before.before.before.if-number-eq-STRENGTH.false, ne_eqb _ 4 c.before.before.before.before.before.before.if-number-eq-FORM.false, ne_eqb _ 5 c.before.before.before.before.before.if-number-eq-MORNING.false, ne_eqb _ 6 c.before.before.before.before.if-number-eq-MIDDAY.false, ne_eqb _ 7 c.before.before.before.if-number-eq-EVENING.false, ne_eqb _ 8 c.before.before.if-number-eq-NIGHT.false, ne_eqb _ 9 c.before.if-number-eq-FREE_DOSE.false)
 
-pub field-cell-spec : {M : Type 1} → statement M
-field-cell-spec =
+pub field_cell_spec : {M : Type 1} → statement M
+field_cell_spec =
     tie.close
     (tie.spec
     array-copy-out-text-cell

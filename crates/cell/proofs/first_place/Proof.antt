@@ -5,14 +5,14 @@ use borrow.Author.Rules.{rules}
 use Rattle.cell.proofs.first_place.Statement.{statement}
 use Rattle.cell.proofs.first_place.Tie as tie
 
-returns : tie.Need-returns
-returns c = rw (le-leb _ _ c.if1.true)
+returns : tie.Need-returns-then-most-le-BACK
+returns c = rw (le-leb _ _ c.if-most-le-BACK.true)
 
-sub-result : tie.Need-overflow-sub-result
+sub-result : tie.Need-overflow_sub-result
 sub-result c = search rules
 
-returns-2 : tie.Need-returns-2
-returns-2 c = rw (lt-leb _ _ c.if1.false)
+returns-2 : tie.Need-returns
+returns-2 c = rw (lt-leb _ _ c.if-most-le-BACK.false)
 
-pub first-place-spec : {M : Type 1} → statement M
-first-place-spec = tie.close (tie.spec returns sub-result returns-2)
+pub first_place_spec : {M : Type 1} → statement M
+first_place_spec = tie.close (tie.spec returns sub-result returns-2)

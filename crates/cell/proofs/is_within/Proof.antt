@@ -5,8 +5,8 @@ use borrow.Author.Rules.{rules}
 use Rattle.cell.proofs.is_within.Statement.{statement}
 use Rattle.cell.proofs.is_within.Tie as tie
 
-returns : tie.Need-returns
-returns c = rw (eq-eqb _ 0 c.if1.true)
+returns : tie.Need-returns-then-s-eq0
+returns c = rw (eq-eqb _ 0 c.if-s-eq0.true)
 
 wide-requires : tie.Need-wide-requires
 wide-requires c κs = search rules
@@ -14,11 +14,11 @@ wide-requires c κs = search rules
 wide-requires-2 : tie.Need-wide-requires-2
 wide-requires-2 c κs = search rules
 
-lies-in-requires : tie.Need-lies-in-requires
+lies-in-requires : tie.Need-lies_in-requires
 lies-in-requires c κs = search rules
 
-returns-2 : tie.Need-returns-2
-returns-2 c = simp (c.lies_in.ensures, c.before.wide2.ensures, c.before.before.wide.ensures, ne_eqb _ 0 c.before.before.before.if1.false)
+returns-2 : tie.Need-returns
+returns-2 c = simp (c.lies_in.ensures, c.before.wide-2.ensures, c.before.before.wide.ensures, ne_eqb _ 0 c.before.before.before.if-s-eq0.false)
 
-pub is-within-spec : {M : Type 1} → statement M
-is-within-spec = tie.close (tie.spec returns wide-requires wide-requires-2 lies-in-requires returns-2)
+pub is_within_spec : {M : Type 1} → statement M
+is_within_spec = tie.close (tie.spec returns wide-requires wide-requires-2 lies-in-requires returns-2)

@@ -9,35 +9,35 @@ use Rattle.cell.proofs.three_cell.Tie as tie
 none-requires : tie.Need-none-requires
 none-requires c κs = search rules
 
-returns : tie.Need-returns
-returns c = c.none.ensures ∙ rw (lt-leb _ _ c.before.if1.true)
+returns : tie.Need-returns-then-which-lt1
+returns c = c.none.ensures ∙ rw (lt-leb _ _ c.before.if-which-lt1.true)
 
-none-requires-2 : tie.Need-none-requires-2
+none-requires-2 : tie.Need-none-requires-then-which-gt3
 none-requires-2 c κs = search rules
 
-returns-2 : tie.Need-returns-2
-returns-2 c = c.none2.ensures ∙ rw (le-leb _ _ c.before.before.if1.false, lt-leb _ _ c.before.if2.true)
+returns-2 : tie.Need-returns-then-which-gt3
+returns-2 c = c.none-then-which-gt3.ensures ∙ rw (le-leb _ _ c.before.before.if-which-lt1.false, lt-leb _ _ c.before.if-which-gt3.true)
 
-mul-text-cell : tie.Need-overflow-mul-text-cell
+mul-text-cell : tie.Need-overflow_mul-which
 mul-text-cell c = search rules
 
-add-text-cell : tie.Need-overflow-add-text-cell
+add-text-cell : tie.Need-overflow_add-first
 add-text-cell c = search rules
 
-mul-text-cell-2 : tie.Need-overflow-mul-text-cell-2
+mul-text-cell-2 : tie.Need-offset_bounds-texts-first
 mul-text-cell-2 c = search rules
 
-array-copy-out-text-cell : tie.Need-array-copy-out-text-cell
+array-copy-out-text-cell : tie.Need-bounds-texts-first
 array-copy-out-text-cell c = search rules
 
-text-cell-requires : tie.Need-text-cell-requires
+text-cell-requires : tie.Need-text_cell-requires
 text-cell-requires c κs = search rules
 
-returns-3 : tie.Need-returns-3
-returns-3 c = c.text-cell.ensures ∙ rw (le-leb _ _ c.before.before.before.if1.false, le-leb _ _ c.before.before.if2.false)
+returns-3 : tie.Need-returns
+returns-3 c = c.text_cell.ensures ∙ rw (le-leb _ _ c.before.before.before.if-which-lt1.false, le-leb _ _ c.before.before.if-which-gt3.false)
 
-pub three-cell-spec : {M : Type 1} → statement M
-three-cell-spec =
+pub three_cell_spec : {M : Type 1} → statement M
+three_cell_spec =
     tie.close
     (tie.spec
     none-requires

@@ -8,40 +8,40 @@ use borrow.Author.Rules.{rules}
 use Rattle.cell.proofs.time_cell.Statement.{statement}
 use Rattle.cell.proofs.time_cell.Tie as tie
 
-enum-known-dose : tie.Need-enum-known-dose
+enum-known-dose : tie.Need-enum_known-dose
 enum-known-dose c = search rules
 
-time-of-requires : tie.Need-time-of-requires
+time-of-requires : tie.Need-time_of-s-requires
 time-of-requires c κs = search rules
 
-dose-cell-requires : tie.Need-dose-cell-requires
+dose-cell-requires : tie.Need-dose_cell-requires
 dose-cell-requires c κs = search rules
 
-enum_told : tie.Need-enum-told
+enum_told : tie.Need-enum_told-1
 enum_told c = search rules
 
-dose-cell-requires-2 : tie.Need-dose-cell-requires-2
+dose-cell-requires-2 : tie.Need-dose_cell-requires-in-Free
 dose-cell-requires-2 c κs = search rules
 
-enum-told-2 : tie.Need-enum-told-2
+enum-told-2 : tie.Need-enum_told-in-Unstated
 enum-told-2 c = search rules
 
-dose-cell-requires-3 : tie.Need-dose-cell-requires-3
+dose-cell-requires-3 : tie.Need-dose_cell-requires-in-Unstated
 dose-cell-requires-3 c κs = search rules
 
-returns : tie.Need-returns
+returns : tie.Need-returns-in-Scheme
 returns c =
     let n = c.before.before.before.before.before.before.args.number in
-    c.dose-cell.ensures ∙ ap (λ (s : Span). dose_found s (eqb s.len 0)) c.before.before.time-of.ensures ∙ sym (ap (time_found (time_of n)) c.before.before.before.before.dose.given.1)
+    c.dose_cell.ensures ∙ ap (λ (s : Span). dose_found s (eqb s.len 0)) c.before.before.time_of-s.ensures ∙ sym (ap (time_found (time_of n)) c.before.before.before.before.dose-1.given.1)
 
-returns-2 : tie.Need-returns-2
-returns-2 c = c.dose-cell2.ensures ∙ sym (ap (time_found (time_of c.before.before.before.args.number)) c.before.enum_told.given.1)
+returns-2 : tie.Need-returns-in-Free
+returns-2 c = c.dose_cell-in-Free.ensures ∙ sym (ap (time_found (time_of c.before.before.before.args.number)) c.before.enum_told-1.given.1)
 
-returns-3 : tie.Need-returns-3
-returns-3 c = c.dose-cell3.ensures ∙ sym (ap (time_found (time_of c.before.before.before.args.number)) c.before.enum-told2.given.1)
+returns-3 : tie.Need-returns-in-Unstated
+returns-3 c = c.dose_cell-in-Unstated.ensures ∙ sym (ap (time_found (time_of c.before.before.before.args.number)) c.before.enum_told-in-Unstated-1.given.1)
 
-pub time-cell-spec : {M : Type 1} → statement M
-time-cell-spec =
+pub time_cell_spec : {M : Type 1} → statement M
+time_cell_spec =
     tie.close
     (tie.spec
     enum-known-dose

@@ -14,46 +14,46 @@ use Rattle.marks.proofs.first_refused.Tie as tie
 use Rattle.marks.proofs.first_refused.Reads as reads
 use Rattle.marks.proofs.first_refused.Lts as lts
 
-abbrev invariant-loop : tie.invariant-loop
+abbrev invariant-loop : tie.invariant-loop-i
 invariant-loop s classes i₀ i = (i ≤ length s) × (first_refused s ≡ i + first_refused (drop i s))
 
-abbrev decreases-loop : tie.decreases-loop
+abbrev decreases-loop : tie.decreases-loop-i
 decreases-loop s classes i₀ i = length s - i
 
-loop-holds : tie.Need-loop-init invariant-loop decreases-loop
+loop-holds : tie.Need-loop-i-init invariant-loop decreases-loop
 loop-holds c = search rules
 
-shared-slice-read-if1 : tie.Need-shared-slice-read-if1 invariant-loop decreases-loop
+shared-slice-read-if1 : tie.Need-bounds-s-i invariant-loop decreases-loop
 shared-slice-read-if1 c = search rules
 
-cast-if1 : tie.Need-overflow-cast-if1 invariant-loop decreases-loop
-cast-if1 c = omega (arith, c.shared-slice-known.given c.before.before.loop.i)
+cast-if1 : tie.Need-overflow_cast-s invariant-loop decreases-loop
+cast-if1 c = omega (arith, c.shared_slice_known-1.given c.before.before.loop-i.i)
 
-array-read-if1 : tie.Need-array-read-if1 invariant-loop decreases-loop
-array-read-if1 c = omega (arith, c.shared-slice-known.given c.before.before.loop.i)
+array-read-if1 : tie.Need-bounds-classes-s invariant-loop decreases-loop
+array-read-if1 c = omega (arith, c.shared_slice_known-1.given c.before.before.loop-i.i)
 
-returns : tie.Need-returns invariant-loop decreases-loop
+returns : tie.Need-returns-then-classes-s-eq0 invariant-loop decreases-loop
 unfolding classes
 returns c =
     let L = c.before.before.before in
-    let b = get_or L.before.args.s.now L.loop.i 0 in
-    sym (L.loop.invariant.1 ∙ hit _ L.loop.i (search rules) (zero_refused b (sym (entry b (omega (arith, c.before.shared-slice-known.given L.loop.i))) ∙ c.if1.true)))
+    let b = get_or L.before.args.s.now L.loop-i.i 0 in
+    sym (L.loop-i.invariant.1 ∙ hit _ L.loop-i.i (search rules) (zero_refused b (sym (entry b (omega (arith, c.before.shared_slice_known-1.given L.loop-i.i))) ∙ c.if-classes-s-eq0.true)))
 
-add-i : tie.Need-overflow-add-i invariant-loop decreases-loop
+add-i : tie.Need-overflow_add-i invariant-loop decreases-loop
 add-i c = search rules
 
-loop-less : tie.Need-loop-smaller invariant-loop decreases-loop
+loop-less : tie.Need-loop-i-smaller invariant-loop decreases-loop
 loop-less c = search rules
 
-loop-again : tie.Need-loop-preserved invariant-loop decreases-loop
+loop-again : tie.Need-loop-i-preserved invariant-loop decreases-loop
 unfolding classes
 loop-again c =
     let L = c.before.before.before in
-    let b = get_or L.before.args.s.now L.loop.i 0 in
-    (search rules, L.loop.invariant.1 ∙ miss _ L.loop.i (search rules) (other_allowed b (λ e. c.if1.false (entry b (omega (arith, c.before.shared-slice-known.given L.loop.i)) ∙ e))))
+    let b = get_or L.before.args.s.now L.loop-i.i 0 in
+    (search rules, L.loop-i.invariant.1 ∙ miss _ L.loop-i.i (search rules) (other_allowed b (λ e. c.if-classes-s-eq0.false (entry b (omega (arith, c.before.shared_slice_known-1.given L.loop-i.i)) ∙ e))))
 
-returns-2 : tie.Need-returns-2 invariant-loop decreases-loop
-returns-2 c = sym (c.before.loop.invariant.1 ∙ done _ c.before.loop.i c.loop-test.false)
+returns-2 : tie.Need-returns invariant-loop decreases-loop
+returns-2 c = sym (c.before.loop-i.invariant.1 ∙ done _ c.before.loop-i.i c.loop-i-test.false)
 
-pub first-refused-spec : {M : Type 1} → statement M
-first-refused-spec = tie.close (tie.spec invariant-loop decreases-loop loop-holds shared-slice-read-if1 cast-if1 array-read-if1 returns add-i loop-less loop-again returns-2)
+pub first_refused_spec : {M : Type 1} → statement M
+first_refused_spec = tie.close (tie.spec invariant-loop decreases-loop loop-holds shared-slice-read-if1 cast-if1 array-read-if1 returns add-i loop-less loop-again returns-2)

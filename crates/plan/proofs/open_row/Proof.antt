@@ -8,35 +8,35 @@ use Rattle.plan.specs.Records.{with_record}
 use Rattle.plan.proofs.open_row.Statement.{statement}
 use Rattle.plan.proofs.open_row.Tie as tie
 
-kind-number-requires : tie.Need-kind-number-requires
+kind-number-requires : tie.Need-kind_number-requires
 kind-number-requires c κs = search rules
 
-array-write-record : tie.Need-array-write-record
+array-write-record : tie.Need-bounds-record-0
 array-write-record c = search rules
 
-array-write-record-2 : tie.Need-array-write-record-2
+array-write-record-2 : tie.Need-bounds-record-1
 array-write-record-2 c = search rules
 
-mul-lay-numbers : tie.Need-overflow-mul-lay-numbers
+mul-lay-numbers : tie.Need-overflow_mul-i
 mul-lay-numbers c = search rules
 
-slice-aggregate-lay-numbers : tie.Need-slice-aggregate-lay-numbers
+slice-aggregate-lay-numbers : tie.Need-slice_bounds-lay_numbers-end
 slice-aggregate-lay-numbers c = search rules
 
-lay-numbers-requires : tie.Need-lay-numbers-requires
+lay-numbers-requires : tie.Need-lay_numbers-requires
 lay-numbers-requires c κs = search rules
 
-same_length : tie.Need-same-length
+same_length : tie.Need-shape_of-rows
 same_length c = search rules
 
 returns : tie.Need-returns
 unfolding record_with
 returns c =
     let a = c.before.before.before.before.before.before.before.args in
-    c.before.before.lay-numbers.ensures ∙ ap (λ k. with_record a.rows.now a.i (record_with k a.«package» [])) c.before.before.before.before.before.kind-number.ensures
+    c.before.before.lay_numbers.ensures ∙ ap (λ k. with_record a.rows.now a.i (record_with k a.«package» [])) c.before.before.before.before.before.kind_number.ensures
 
-pub open-row-spec : {M : Type 1} → statement M
-open-row-spec =
+pub open_row_spec : {M : Type 1} → statement M
+open_row_spec =
     tie.close
     (tie.spec
     kind-number-requires

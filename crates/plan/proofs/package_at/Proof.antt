@@ -8,25 +8,25 @@ use Rattle.plan.proofs.package_at.Statement.{statement}
 use Rattle.plan.proofs.package_at.Tie as tie
 
 -- src/lib.rt:125:10
-mul-result : tie.Need-overflow-mul-result
+mul-result : tie.Need-overflow_mul-result
 mul-result c = search rules
 
 -- src/lib.rt:125:10
-add-result : tie.Need-overflow-add-result
+add-result : tie.Need-overflow_add-result
 add-result c = search rules
 
 -- src/lib.rt:125:5
-mul-result-2 : tie.Need-overflow-mul-result-2
+mul-result-2 : tie.Need-offset_bounds-rows-i
 mul-result-2 c = search rules
 
 -- src/lib.rt:125:5
-shared-slice-read-result : tie.Need-shared-slice-read-result
+shared-slice-read-result : tie.Need-bounds-rows-i
 shared-slice-read-result c = search rules
 
 -- src/lib.rt:121:1
 returns : tie.Need-returns
 returns c = sym (record_number c.before.args.rows.now c.before.args.i 1 (omega arith))
 
-pub package-at-spec : {M : Type 1} → statement M
-package-at-spec =
+pub package_at_spec : {M : Type 1} → statement M
+package_at_spec =
     tie.close (tie.spec mul-result add-result mul-result-2 shared-slice-read-result returns)

@@ -7,59 +7,59 @@ use Rattle.probe.proofs.tell_spans.Tie as tie
 use Rattle.probe.proofs.tell_spans.Reads as reads
 use Rattle.probe.proofs.tell_spans.Lts as lts
 
-abbrev invariant-loop : tie.invariant-loop
+abbrev invariant-loop : tie.invariant-loop-j
 invariant-loop told₀ head j₀ told j = j ≤ 27
 
-abbrev decreases-loop : tie.decreases-loop
+abbrev decreases-loop : tie.decreases-loop-j
 decreases-loop told₀ head j₀ told j = 27 - j
 
-loop-holds : tie.Need-loop-init invariant-loop decreases-loop
+loop-holds : tie.Need-loop-j-init invariant-loop decreases-loop
 loop-holds c = search rules
 
-mul-s : tie.Need-overflow-mul-s invariant-loop decreases-loop
+mul-s : tie.Need-offset_bounds-head-j invariant-loop decreases-loop
 mul-s c = search rules
 
-array-copy-out-s : tie.Need-array-copy-out-s invariant-loop decreases-loop
+array-copy-out-s : tie.Need-bounds-head-j invariant-loop decreases-loop
 array-copy-out-s c = search rules
 
-mul-told : tie.Need-overflow-mul-told invariant-loop decreases-loop
+mul-told : tie.Need-overflow_mul-told invariant-loop decreases-loop
 mul-told c = search rules
 
-add-told : tie.Need-overflow-add-told invariant-loop decreases-loop
+add-told : tie.Need-overflow_add-told invariant-loop decreases-loop
 add-told c = search rules
 
-mul-told-2 : tie.Need-overflow-mul-told-2 invariant-loop decreases-loop
+mul-told-2 : tie.Need-offset_bounds-told-j invariant-loop decreases-loop
 mul-told-2 c = search rules
 
-element-write-told : tie.Need-element-write-told invariant-loop decreases-loop
+element-write-told : tie.Need-bounds-told-j invariant-loop decreases-loop
 element-write-told c = search rules
 
-mul-told-3 : tie.Need-overflow-mul-told-3 invariant-loop decreases-loop
+mul-told-3 : tie.Need-overflow_mul-told-in-loop-j invariant-loop decreases-loop
 mul-told-3 c = search rules
 
-add-told-2 : tie.Need-overflow-add-told-2 invariant-loop decreases-loop
+add-told-2 : tie.Need-overflow_add-told-in-loop-j invariant-loop decreases-loop
 add-told-2 c = search rules
 
-mul-told-4 : tie.Need-overflow-mul-told-4 invariant-loop decreases-loop
+mul-told-4 : tie.Need-offset_bounds-told-j-in-loop-j invariant-loop decreases-loop
 mul-told-4 c = search rules
 
-element-write-told-2 : tie.Need-element-write-told-2 invariant-loop decreases-loop
+element-write-told-2 : tie.Need-bounds-told-j-in-loop-j invariant-loop decreases-loop
 element-write-told-2 c = search rules
 
-add-j : tie.Need-overflow-add-j invariant-loop decreases-loop
+add-j : tie.Need-overflow_add-j invariant-loop decreases-loop
 add-j c = search rules
 
-loop-less : tie.Need-loop-smaller invariant-loop decreases-loop
+loop-less : tie.Need-loop-j-smaller invariant-loop decreases-loop
 loop-less c = search rules
 
-loop-again : tie.Need-loop-preserved invariant-loop decreases-loop
+loop-again : tie.Need-loop-j-preserved invariant-loop decreases-loop
 loop-again c = search rules
 
 returns : tie.Need-returns invariant-loop decreases-loop
 returns c = search rules
 
-pub tell-spans-spec : {M : Type 1} → statement M
-tell-spans-spec =
+pub tell_spans_spec : {M : Type 1} → statement M
+tell_spans_spec =
     tie.close
     (tie.spec
     invariant-loop

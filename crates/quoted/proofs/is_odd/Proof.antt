@@ -16,11 +16,11 @@ use Rattle.quoted.proofs.is_odd.Tie as tie
 tells : (l : List ℕ) (b : ℕ) → l ≡ odd_table → b < 256 → eqb (get_or l b 0) 1 ≡ not (ordinary b)
 tells l b e h = ap (λ (s : List ℕ). eqb (get_or s b 0) 1) e ∙ ap (λ (x : ℕ). eqb x 1) (entry b h) ∙ told (ordinary b)
 
-element-copy-out-result : tie.Need-element-copy-out-result
+element-copy-out-result : tie.Need-bounds-odd-b
 element-copy-out-result c = search rules
 
 returns : tie.Need-returns
 returns c = tells c.before.args.odd.now c.before.args.b c.before.requires (search rules)
 
-pub is-odd-spec : {M : Type 1} → statement M
-is-odd-spec = tie.close (tie.spec element-copy-out-result returns)
+pub is_odd_spec : {M : Type 1} → statement M
+is_odd_spec = tie.close (tie.spec element-copy-out-result returns)

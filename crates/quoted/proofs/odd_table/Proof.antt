@@ -9,5 +9,5 @@ returns : tie.Need-returns
 unfolding odd_table
 returns c = refl
 
-pub odd-table-spec : {M : Type 1} → statement M
-odd-table-spec = tie.close (tie.spec returns)
+pub odd_table_spec : {M : Type 1} → statement M
+odd_table_spec = tie.close (tie.spec returns)

@@ -9,32 +9,32 @@ use Rattle.collector.proofs.adding.agrees.Tie as tie
 use borrow.Author.Rules.{rules}
 
 -- the first page has no fault
-fine-at : (c : tie.After-enum-told) → IsSheet c.before.before.before.before.before.before.before.args.first.now
-fine-at c = fine_sheet _ (sym c.enum_told.given.1 ∙ c.before.before.before.judge-page.ensures)
+fine-at : (c : tie.In-Fine) → IsSheet c.before.before.before.before.before.before.before.args.first.now
+fine-at c = fine_sheet _ (sym c.enum_told-1.given.1 ∙ c.before.before.before.judge_page-verdict.ensures)
 
-slice-aggregate-judge-page : tie.Need-slice-aggregate-judge-page
+slice-aggregate-judge-page : tie.Need-slice_bounds-judge_page-end
 slice-aggregate-judge-page c = search rules
 
-judge-page-requires : tie.Need-judge-page-requires
+judge-page-requires : tie.Need-judge_page-verdict-requires
 judge-page-requires c κs = search rules
 
-enum_told : tie.Need-enum-told
+enum_told : tie.Need-enum_told-1
 enum_told c = search rules
 
-enum-told-2 : tie.Need-enum-told-2
+enum-told-2 : tie.Need-enum_told-in_default
 enum-told-2 c = search rules
 
-returns : tie.Need-returns
-returns c = refused_first _ _ _ _ (sym c.enum-told2.given.1 ∙ c.before.before.before.judge-page.ensures)
+returns : tie.Need-returns-in_default
+returns c = refused_first _ _ _ _ (sym c.enum_told-in_default-1.given.1 ∙ c.before.before.before.judge_page-verdict.ensures)
 
 belong-requires : tie.Need-belong-requires
 belong-requires c κs = (fine-at c, c.before.before.before.before.before.before.before.requires)
 
-returns-2 : tie.Need-returns-2
+returns-2 : tie.Need-returns
 returns-2 c = by_heads _ _ _ (says _ (fine-at c.before)) c.belong.ensures
 
-pub agrees-spec : {M : Type 1} → statement M
-agrees-spec =
+pub agrees_spec : {M : Type 1} → statement M
+agrees_spec =
     tie.close
     (tie.spec
     slice-aggregate-judge-page

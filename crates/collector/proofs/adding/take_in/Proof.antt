@@ -15,7 +15,7 @@ use Rattle.collector.proofs.adding.take_in.Tie as tie
 use borrow.Author.Rules.{rules}
 
 -- where the call began
-abbrev start_of : tie.After-agrees-first → tie.Start
+abbrev start_of : tie.After-agrees_first → tie.Start
 start_of c = c.before.before.before.before.before
 
 -- the room is that of nine pages
@@ -27,20 +27,20 @@ says_at : (s : tie.Start) → Says s.args.page.now
 says_at s = says _ s.requires
 
 -- the page agrees with the first page
-alike_at : (c : tie.Else1) → let a = (start_of c.before).args in agrees_first a.c.pages a.c.lens a.c.first (content_of (tags_at a.page.now 0)) ≡ true
-alike_at c = sym c.before.agrees_first.ensures ∙ not-false _ c.if1.false
+alike_at : (c : tie.Else-not-agrees_first) → let a = (start_of c.before).args in agrees_first a.c.pages a.c.lens a.c.first (content_of (tags_at a.page.now 0)) ≡ true
+alike_at c = sym c.before.agrees_first.ensures ∙ not-false _ c.if-not-agrees_first.false
 
 -- where the test of the first page was passed, behind the page's number
-abbrev passed : tie.After-page-at → tie.Else1
+abbrev passed : tie.After-page_at-at → tie.Else-not-agrees_first
 passed c = c.before.before
 
 -- the number that the page says
-number_at : (c : tie.After-page-at) → let a = (start_of (passed c).before).args in c.before.Numbers-of.result.no ≡ (content_of (tags_at a.page.now 0)).no
+number_at : (c : tie.After-page_at-at) → let a = (start_of (passed c).before).args in c.before.Numbers-of.result.no ≡ (content_of (tags_at a.page.now 0)).no
 number_at c = c.before.Numbers-of.ensures.0
 
 -- the place of the page that is kept for it
-place_at : (c : tie.After-known-told) → let P = c.before.before.before in Place (start_of (passed P).before).args.c.lens P.before.Numbers-of.result.no c.before.at.given.0.0 c.before.at.given.0.1.0
-place_at c = place _ _ _ _ (sym c.before.at.given.1 ∙ c.before.before.before.page-at.ensures)
+place_at : (c : tie.In-Here) → let P = c.before.before.before in Place (start_of (passed P).before).args.c.lens P.before.Numbers-of.result.no c.before.at-1.given.0.0 c.before.at-1.given.0.1.0
+place_at c = place _ _ _ _ (sym c.before.at-1.given.1 ∙ c.before.before.before.page_at-at.ensures)
 
 -- whether its bytes are the page's
 same_at : (c : tie.After-spells) → let P = c.before.before.before.before.before in let a = (start_of (passed P).before).args in
@@ -51,33 +51,33 @@ same_at c =
     let a = (start_of (passed P).before).args in
     rw (← number_at P) ((place_at K).is_here, same_kept a.c.pages a.c.lens a.page.now _ _ _ _ (long-at (start_of (passed P).before)) (place_at K) c.spells.ensures)
 
-slice-aggregate-agrees-first : tie.Need-slice-aggregate-agrees-first
+slice-aggregate-agrees-first : tie.Need-slice_bounds-agrees_first-end
 slice-aggregate-agrees-first c = search rules
 
-agrees-first-requires : tie.Need-agrees-first-requires
+agrees-first-requires : tie.Need-agrees_first-requires
 agrees-first-requires c κs = search rules
 
 unchanged-requires : tie.Need-unchanged-requires
 unchanged-requires c κs = search rules
 
-returns : tie.Need-returns
+returns : tie.Need-returns-then-not-agrees_first
 returns c =
     let A = c.before.before in
-    promised_same _ _ _ _ _ c.unchanged.ensures.0 c.unchanged.ensures.1 (takes_other (start_of A).args.c _ _ (sym A.agrees_first.ensures ∙ not-true _ c.before.if1.true))
+    promised_same _ _ _ _ _ c.unchanged.ensures.0 c.unchanged.ensures.1 (takes_other (start_of A).args.c _ _ (sym A.agrees_first.ensures ∙ not-true _ c.before.if-not-agrees_first.true))
 
-numbers-of-requires : tie.Need-numbers-of-requires
+numbers-of-requires : tie.Need-numbers_of-said-requires
 numbers-of-requires c κs = search rules
 
-page-at-requires : tie.Need-page-at-requires
+page-at-requires : tie.Need-page_at-at-requires
 page-at-requires c κs = search rules
 
-enum-known-at : tie.Need-enum-known-at
+enum-known-at : tie.Need-enum_known-at
 enum-known-at c = search rules
 
-slice-aggregate-spells : tie.Need-slice-aggregate-spells
+slice-aggregate-spells : tie.Need-slice_bounds-spells-end
 slice-aggregate-spells c = search rules
 
-add-spells : tie.Need-overflow-add-spells
+add-spells : tie.Need-overflow_add-start
 add-spells c = omega (arith, (place_at c.before).inside)
 
 spells-requires : tie.Need-spells-requires
@@ -85,42 +85,42 @@ spells-requires c κs =
     let K = c.before in
     (omega arith, omega (arith, (place_at K).inside, long-at (start_of (passed K.before.before.before).before)))
 
-unchanged-requires-2 : tie.Need-unchanged-requires-2
+unchanged-requires-2 : tie.Need-unchanged-requires-then-spells
 unchanged-requires-2 c κs = search rules
 
-returns-2 : tie.Need-returns-2
+returns-2 : tie.Need-returns-then-spells
 returns-2 c =
     let S = c.before.before in
     let P = S.before.before.before.before.before in
     let e = same_at S in
-    promised_same _ _ _ _ _ c.unchanged2.ensures.0 c.unchanged2.ensures.1 (takes_same (start_of (passed P).before).args.c _ _ (alike_at (passed P)) e.0 (e.1 ∙ c.before.if2.true))
+    promised_same _ _ _ _ _ c.unchanged-then-spells.ensures.0 c.unchanged-then-spells.ensures.1 (takes_same (start_of (passed P).before).args.c _ _ (alike_at (passed P)) e.0 (e.1 ∙ c.before.if-spells.true))
 
-unchanged-requires-3 : tie.Need-unchanged-requires-3
+unchanged-requires-3 : tie.Need-unchanged-requires-in-Here
 unchanged-requires-3 c κs = search rules
 
-returns-3 : tie.Need-returns-3
+returns-3 : tie.Need-returns-in-Here
 returns-3 c =
     let S = c.before.before in
     let P = S.before.before.before.before.before in
     let e = same_at S in
-    promised_same _ _ _ _ _ c.unchanged3.ensures.0 c.unchanged3.ensures.1 (takes_second (start_of (passed P).before).args.c _ _ (alike_at (passed P)) e.0 (e.1 ∙ c.before.if2.false))
+    promised_same _ _ _ _ _ c.unchanged-in-Here.ensures.0 c.unchanged-in-Here.ensures.1 (takes_second (start_of (passed P).before).args.c _ _ (alike_at (passed P)) e.0 (e.1 ∙ c.before.if-spells.false))
 
-enum_told : tie.Need-enum-told
+enum_told : tie.Need-enum_told-1
 enum_told c = search rules
 
-first-with-requires : tie.Need-first-with-requires
+first-with-requires : tie.Need-first_with-first-requires
 first-with-requires c κs = search rules
 
-cast-i : tie.Need-overflow-cast-i
+cast-i : tie.Need-overflow_cast-i
 cast-i c = search rules
 
-sub-i : tie.Need-overflow-sub-i
+sub-i : tie.Need-overflow_sub-i
 sub-i c = omega (arith, number_at c.before.before.before, (says_at c.before.before.before.before.before.before.before.before.before.before.before).least)
 
-slice-aggregate-lay : tie.Need-slice-aggregate-lay
+slice-aggregate-lay : tie.Need-slice_bounds-lay-end
 slice-aggregate-lay c = search rules
 
-mul-lay : tie.Need-overflow-mul-lay
+mul-lay : tie.Need-overflow_mul-i
 mul-lay c = search rules
 
 lay-requires : tie.Need-lay-requires
@@ -128,29 +128,29 @@ lay-requires c κs =
     let s = says_at c.before.before.before.before.before.before.before.before.before.before.before.before in
     omega (arith, long-at c.before.before.before.before.before.before.before.before.before.before.before.before, number_at c.before.before.before.before, s.fits.short, s.fits.no_small, s.least)
 
-cast-lens : tie.Need-overflow-cast-lens
+cast-lens : tie.Need-overflow_cast-lens
 cast-lens c = omega (arith, (says_at c.before.before.before.before.before.before.before.before.before.before.before.before.before.before).fits.short)
 
-mul-lens : tie.Need-overflow-mul-lens
+mul-lens : tie.Need-offset_bounds-lens-i
 mul-lens c = search rules
 
-array-write-lens : tie.Need-array-write-lens
+array-write-lens : tie.Need-bounds-lens-i
 array-write-lens c =
     let s = says_at c.before.before.before.before.before.before.before.before.before.before.before.before.before.before in
     omega (arith, number_at c.before.before.before.before.before.before, s.fits.no_small, s.least)
 
-returns-4 : tie.Need-returns-4
+returns-4 : tie.Need-returns
 returns-4 c =
     let Y = c.before in
     let N = Y.before.before in
     let P = N.before.before.before in
     let a = (start_of (passed P).before).args in
-    let e : here a.c.lens (content_of (tags_at a.page.now 0)).no ≡ false = ap (here a.c.lens) (sym (number_at P)) ∙ told_missing _ _ _ (sym N.before.enum_told.given.1 ∙ P.page-at.ensures) in
+    let e : here a.c.lens (content_of (tags_at a.page.now 0)).no ≡ false = ap (here a.c.lens) (sym (number_at P)) ∙ told_missing _ _ _ (sym N.before.enum_told-1.given.1 ∙ P.page_at-at.ensures) in
     takes_new a.c a.page.now (content_of (tags_at a.page.now 0)) (alike_at (passed P)) e _
-    (keeps a.c a.page.now (content_of (tags_at a.page.now 0)) _ _ _ _ (number_at P) P.before.Numbers-of.ensures.1 N.first-with.ensures Y.lay.ensures.1)
+    (keeps a.c a.page.now (content_of (tags_at a.page.now 0)) _ _ _ _ (number_at P) P.before.Numbers-of.ensures.1 N.first_with-first.ensures Y.lay.ensures.1)
 
-pub take-in-spec : {M : Type 1} → statement M
-take-in-spec =
+pub take_in_spec : {M : Type 1} → statement M
+take_in_spec =
     tie.close
     (tie.spec
     slice-aggregate-agrees-first

@@ -6,17 +6,17 @@ use borrow.Author.Rules.{rules}
 use Rattle.fields.proofs.dates.born.Statement.{statement}
 use Rattle.fields.proofs.dates.born.Tie as tie
 
-full-date-requires : tie.Need-full-date-requires
+full-date-requires : tie.Need-full_date-requires
 full-date-requires c κs = search rules
 
-returns : tie.Need-returns
-returns c = rw (sym c.before.full-date.ensures ∙ c.if1.true)
+returns : tie.Need-returns-then-full_date
+returns c = rw (sym c.before.full_date.ensures ∙ c.if-full_date.true)
 
-partial-date-requires : tie.Need-partial-date-requires
+partial-date-requires : tie.Need-partial_date-requires
 partial-date-requires c κs = search rules
 
-returns-2 : tie.Need-returns-2
-returns-2 c = rw (sym c.before.before.full-date.ensures ∙ c.before.if1.false) c.partial-date.ensures
+returns-2 : tie.Need-returns
+returns-2 c = rw (sym c.before.before.full_date.ensures ∙ c.before.if-full_date.false) c.partial_date.ensures
 
-pub born-spec : {M : Type 1} → statement M
-born-spec = tie.close (tie.spec full-date-requires returns partial-date-requires returns-2)
+pub born_spec : {M : Type 1} → statement M
+born_spec = tie.close (tie.spec full-date-requires returns partial-date-requires returns-2)

@@ -6,14 +6,14 @@ use borrow.Author.Rules.{rules}
 use Rattle.fields.proofs.dates.february.Statement.{statement}
 use Rattle.fields.proofs.dates.february.Tie as tie
 
-is-leap-requires : tie.Need-is-leap-requires
+is-leap-requires : tie.Need-is_leap-requires
 is-leap-requires c κs = search rules
 
-returns : tie.Need-returns
-returns c = rw (sym c.before.is-leap.ensures ∙ c.if1.true)
+returns : tie.Need-returns-then-is_leap
+returns c = rw (sym c.before.is_leap.ensures ∙ c.if-is_leap.true)
 
-returns-2 : tie.Need-returns-2
-returns-2 c = rw (sym c.before.is-leap.ensures ∙ c.if1.false)
+returns-2 : tie.Need-returns
+returns-2 c = rw (sym c.before.is_leap.ensures ∙ c.if-is_leap.false)
 
-pub february-spec : {M : Type 1} → statement M
-february-spec = tie.close (tie.spec is-leap-requires returns returns-2)
+pub february_spec : {M : Type 1} → statement M
+february_spec = tie.close (tie.spec is-leap-requires returns returns-2)

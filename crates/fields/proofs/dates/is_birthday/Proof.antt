@@ -12,35 +12,35 @@ use Rattle.fields.proofs.DateLaws.{three}
 use Rattle.fields.proofs.dates.is_birthday.Statement.{statement}
 use Rattle.fields.proofs.dates.is_birthday.Tie as tie
 
-all-in-requires : tie.Need-all-in-requires
+all-in-requires : tie.Need-all_in-requires
 all-in-requires c κs = search rules
 
 shown-requires : tie.Need-shown-requires
 shown-requires c κs = search rules
 
-shown-requires-2 : tie.Need-shown-requires-2
+shown-requires-2 : tie.Need-shown-requires-then-all_in
 shown-requires-2 c κs = search rules
 
-shown-requires-3 : tie.Need-shown-requires-3
+shown-requires-3 : tie.Need-shown-requires-then-all_in-2
 shown-requires-3 c κs = search rules
 
 born-requires : tie.Need-born-requires
 born-requires c κs = search rules
 
-returns : tie.Need-returns
+returns : tie.Need-returns-then-all_in
 unfolding in_set
 returns c =
-    let d : every is_digit c.before.before.before.before.before.before.before.args.v.now ≡ true = sym c.before.before.before.before.before.all_in.ensures ∙ c.before.before.before.before.if1.true in
-    rw d (c.born.ensures ∙ three birth_date c.before.before.before.shown.ensures c.before.before.shown2.ensures c.before.shown3.ensures)
+    let d : every is_digit c.before.before.before.before.before.before.before.args.v.now ≡ true = sym c.before.before.before.before.before.all_in.ensures ∙ c.before.before.before.before.if-all_in.true in
+    rw d (c.born.ensures ∙ three birth_date c.before.before.before.shown.ensures c.before.before.shown-then-all_in.ensures c.before.shown-then-all_in-2.ensures)
 
-returns-2 : tie.Need-returns-2
+returns-2 : tie.Need-returns
 unfolding in_set
 returns-2 c =
-    let d : every is_digit c.before.before.before.args.v.now ≡ false = sym c.before.all_in.ensures ∙ c.if1.false in
+    let d : every is_digit c.before.before.before.args.v.now ≡ false = sym c.before.all_in.ensures ∙ c.if-all_in.false in
     rw d
 
-pub is-birthday-spec : {M : Type 1} → statement M
-is-birthday-spec =
+pub is_birthday_spec : {M : Type 1} → statement M
+is_birthday_spec =
     tie.close
     (tie.spec
     all-in-requires

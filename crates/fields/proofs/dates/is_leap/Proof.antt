@@ -5,14 +5,14 @@ use borrow.Author.Tests.{eq-eqb, ne_eqb}
 use Rattle.fields.proofs.dates.is_leap.Statement.{statement}
 use Rattle.fields.proofs.dates.is_leap.Tie as tie
 
-returns : tie.Need-returns
-returns c = rw (ne_eqb _ 0 c.if1.true)
+returns : tie.Need-returns-then-y-ne0
+returns c = rw (ne_eqb _ 0 c.if-y-ne0.true)
 
-returns-2 : tie.Need-returns-2
-returns-2 c = rw (eq-eqb _ 0 c.before.if1.false, ne_eqb _ 0 c.if2.true)
+returns-2 : tie.Need-returns-then-y-ne0-2
+returns-2 c = rw (eq-eqb _ 0 c.before.if-y-ne0.false, ne_eqb _ 0 c.if-y-ne0-2.true)
 
-returns-3 : tie.Need-returns-3
-returns-3 c = rw (eq-eqb _ 0 c.before.if1.false, eq-eqb _ 0 c.if2.false)
+returns-3 : tie.Need-returns
+returns-3 c = rw (eq-eqb _ 0 c.before.if-y-ne0.false, eq-eqb _ 0 c.if-y-ne0-2.false)
 
-pub is-leap-spec : {M : Type 1} → statement M
-is-leap-spec = tie.close (tie.spec returns returns-2 returns-3)
+pub is_leap_spec : {M : Type 1} → statement M
+is_leap_spec = tie.close (tie.spec returns returns-2 returns-3)

@@ -11,62 +11,58 @@ use Rattle.fields.proofs.DateLaws.{three}
 use Rattle.fields.proofs.dates.is_stamp.Statement.{statement}
 use Rattle.fields.proofs.dates.is_stamp.Tie as tie
 
-slice-aggregate-fits : tie.Need-slice-aggregate-fits
-slice-aggregate-fits c = search rules
-
 fits-requires : tie.Need-fits-requires
 fits-requires c κs = search rules
 
 shown-requires : tie.Need-shown-requires
 shown-requires c κs = search rules
 
-shown-requires-2 : tie.Need-shown-requires-2
+shown-requires-2 : tie.Need-shown-requires-then-fits
 shown-requires-2 c κs = search rules
 
-shown-requires-3 : tie.Need-shown-requires-3
+shown-requires-3 : tie.Need-shown-requires-then-fits-2
 shown-requires-3 c κs = search rules
 
-real-day-requires : tie.Need-real-day-requires
+real-day-requires : tie.Need-real_day-requires
 real-day-requires c κs = search rules
 
-shown-requires-4 : tie.Need-shown-requires-4
+shown-requires-4 : tie.Need-shown-requires-then-real_day
 shown-requires-4 c κs = search rules
 
-shown-requires-5 : tie.Need-shown-requires-5
+shown-requires-5 : tie.Need-shown-requires-then-real_day-2
 shown-requires-5 c κs = search rules
 
-shown-requires-6 : tie.Need-shown-requires-6
+shown-requires-6 : tie.Need-shown-requires-then-real_day-3
 shown-requires-6 c κs = search rules
 
-is-time-requires : tie.Need-is-time-requires
+is-time-requires : tie.Need-is_time-requires
 is-time-requires c κs = search rules
 
-returns : tie.Need-returns
+returns : tie.Need-returns-then-real_day
 unfolding in_set
 returns c =
     let D = c.before.before.before.before.before in
     let F = D.before.before.before.before in
-    let day = three real_day D.before.before.before.shown.ensures D.before.before.shown2.ensures D.before.shown3.ensures in
-    rw (sym F.before.fits2.ensures ∙ F.if1.true, sym day ∙ sym D.real-day.ensures ∙ c.before.before.before.before.if2.true)
-    (c.is-time.ensures ∙ three (λ h m s. leb h 23 && leb m 59 && leb s 59) c.before.before.before.shown4.ensures c.before.before.shown5.ensures c.before.shown6.ensures)
+    let day = three real_day D.before.before.before.shown.ensures D.before.before.shown-then-fits.ensures D.before.shown-then-fits-2.ensures in
+    rw (sym F.before.fits2.ensures ∙ F.if-fits.true, sym day ∙ sym D.real_day.ensures ∙ c.before.before.before.before.if-real_day.true)
+    (c.is_time.ensures ∙ three (λ h m s. leb h 23 && leb m 59 && leb s 59) c.before.before.before.shown-then-real_day.ensures c.before.before.shown-then-real_day-2.ensures c.before.shown-then-real_day-3.ensures)
 
-returns-2 : tie.Need-returns-2
+returns-2 : tie.Need-returns-then-fits
 unfolding in_set
 returns-2 c =
     let D = c.before in
     let F = D.before.before.before.before in
-    let day = three real_day D.before.before.before.shown.ensures D.before.before.shown2.ensures D.before.shown3.ensures in
-    rw (sym F.before.fits2.ensures ∙ F.if1.true, sym day ∙ sym D.real-day.ensures ∙ c.if2.false)
+    let day = three real_day D.before.before.before.shown.ensures D.before.before.shown-then-fits.ensures D.before.shown-then-fits-2.ensures in
+    rw (sym F.before.fits2.ensures ∙ F.if-fits.true, sym day ∙ sym D.real_day.ensures ∙ c.if-real_day.false)
 
-returns-3 : tie.Need-returns-3
+returns-3 : tie.Need-returns
 unfolding in_set
-returns-3 c = rw (sym c.before.fits2.ensures ∙ c.if1.false)
+returns-3 c = rw (sym c.before.fits2.ensures ∙ c.if-fits.false)
 
-pub is-stamp-spec : {M : Type 1} → statement M
-is-stamp-spec =
+pub is_stamp_spec : {M : Type 1} → statement M
+is_stamp_spec =
     tie.close
     (tie.spec
-    slice-aggregate-fits
     fits-requires
     shown-requires
     shown-requires-2

@@ -10,18 +10,18 @@ use Rattle.fields.proofs.dates.month_days.Tie as tie
 february-requires : tie.Need-february-requires
 february-requires c κs = search rules
 
-mul-result : tie.Need-overflow-mul-result
+mul-result : tie.Need-offset_bounds-days-m
 mul-result c = search rules
 
-array-read-result : tie.Need-array-read-result
+array-read-result : tie.Need-bounds-days-m
 array-read-result c = search rules
 
-returns : tie.Need-returns
+returns : tie.Need-returns-then-m-lt13
 returns c = months c.before.before.args.y c.before.before.args.m c.before.february.result c.before.february.ensures
 
-returns-2 : tie.Need-returns-2
-returns-2 c = sym (no_month c.before.before.args.y c.before.before.args.m c.if1.false)
+returns-2 : tie.Need-returns
+returns-2 c = sym (no_month c.before.before.args.y c.before.before.args.m c.if-m-lt13.false)
 
-pub month-days-spec : {M : Type 1} → statement M
-month-days-spec =
+pub month_days_spec : {M : Type 1} → statement M
+month_days_spec =
     tie.close (tie.spec february-requires mul-result array-read-result returns returns-2)

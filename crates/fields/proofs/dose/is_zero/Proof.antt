@@ -12,20 +12,17 @@ use Rattle.fields.proofs.SetLaws.{plain_same}
 use Rattle.fields.proofs.dose.is_zero.Statement.{statement}
 use Rattle.fields.proofs.dose.is_zero.Tie as tie
 
-slice-aggregate-fits : tie.Need-slice-aggregate-fits
-slice-aggregate-fits c = search rules
-
 fits-requires : tie.Need-fits-requires
 fits-requires c κs = search rules
 
-returns : tie.Need-returns
+returns : tie.Need-returns-then-rule-eq14
 unfolding in_set
 returns c =
     let v = c.before.before.before.before.args.v.now in
     c.fits2.ensures ∙ plain_same (48 ∷ []) v ∙ sym (ap (λ (k : ℕ). is_zero (rule_at k) v) c.before.before.if1.true)
 
-returns-2 : tie.Need-returns-2
-returns-2 c = let a = c.before.before.args in sym (not_dose a.rule a.v.now c.if1.false)
+returns-2 : tie.Need-returns
+returns-2 c = let a = c.before.before.args in sym (not_dose a.rule a.v.now c.if-rule-eq14.false)
 
-pub is-zero-spec : {M : Type 1} → statement M
-is-zero-spec = tie.close (tie.spec slice-aggregate-fits fits-requires returns returns-2)
+pub is_zero_spec : {M : Type 1} → statement M
+is_zero_spec = tie.close (tie.spec fits-requires returns returns-2)

@@ -15,65 +15,65 @@ use Rattle.fields.proofs.lookup.child.Tie as tie
 use Rattle.fields.proofs.lookup.find.Reads as find-reads
 use Rattle.fields.proofs.lookup.key.Reads as key_reads
 
-array-read-first : tie.Need-array-read-first
+array-read-first : tie.Need-bounds-parent
 array-read-first c = search rules
 
-cast-first : tie.Need-overflow-cast-first
+cast-first : tie.Need-overflow_cast-first-2
 unfolding child_first_column child_count_column child_key_column child_kind_column under kind_at
 cast-first c = fits_entry child_first_column c.before.args.parent refl
 
-array-read-count : tie.Need-array-read-count
+array-read-count : tie.Need-bounds-parent-2
 array-read-count c = search rules
 
-cast-count : tie.Need-overflow-cast-count
+cast-count : tie.Need-overflow_cast-count-2
 unfolding child_first_column child_count_column child_key_column child_kind_column under kind_at
 cast-count c = fits_entry child_count_column c.before.args.parent refl
 
-slice-aggregate-find : tie.Need-slice-aggregate-find
+slice-aggregate-find : tie.Need-slice_bounds-find-end
 slice-aggregate-find c = search rules
 
-add-find : tie.Need-overflow-add-find
+add-find : tie.Need-overflow_add-first
 unfolding child_first_column child_count_column under kind_at
 add-find c = let S = c.before.before in let within = child_within S.args.parent S.requires in omega arith
 
 key-requires : tie.Need-key-requires
 key-requires c κs = search rules
 
-find-requires : tie.Need-find-requires
+find-requires : tie.Need-find-i-requires
 unfolding child_first_column child_count_column under kind_at
 find-requires c κs = let S = c.before.before.before in let within = child_within S.args.parent S.requires in (omega arith, omega arith)
 
-add-result : tie.Need-overflow-add-result
+add-result : tie.Need-overflow_add-result
 unfolding child_first_column child_count_column under kind_at
 add-result c = let S = c.before.before.before.before.before in let within = child_within S.args.parent S.requires in omega arith
 
-array-read-result : tie.Need-array-read-result
+array-read-result : tie.Need-bounds-kinds-first
 unfolding child_first_column child_count_column under kind_at
 array-read-result c = let S = c.before.before.before.before.before in let within = child_within S.args.parent S.requires in omega arith
 
-returns : tie.Need-returns
+returns : tie.Need-returns-then-i-count
 unfolding child_first_column child_count_column child_key_column child_kind_column under kind_at
 returns c =
     let K = c.before.before in
     let S = K.before.before.before in
     let a = S.args in
-    let e = child_found a.parent c.before.find.result K.key.result a.name.now S.requires (λ i. (K.before.before.shared-slice-known.given i).fits)
-    K.key.ensures c.before.find.ensures.0 c.if1.true in
+    let e = child_found a.parent c.before.find-i.result K.key.result a.name.now S.requires (λ i. (K.before.before.shared-slice-known.given i).fits)
+    K.key.ensures c.before.find-i.ensures.0 c.if-i-count.true in
     (e, rw e (code_small (named a.name.now (under a.parent))))
 
-returns-2 : tie.Need-returns-2
+returns-2 : tie.Need-returns
 unfolding child_first_column child_count_column child_key_column child_kind_column under kind_at
 returns-2 c =
     let K = c.before.before in
     let S = K.before.before.before in
     let a = S.args in (
-      child_none a.parent c.before.find.result K.key.result a.name.now S.requires (λ i. (K.before.before.shared-slice-known.given i).fits)
-          K.key.ensures c.before.find.ensures.0 c.if1.false,
+      child_none a.parent c.before.find-i.result K.key.result a.name.now S.requires (λ i. (K.before.before.shared-slice-known.given i).fits)
+          K.key.ensures c.before.find-i.ensures.0 c.if-i-count.false,
       omega arith,
     )
 
-pub child-spec : {M : Type 1} → statement M
-child-spec =
+pub child_spec : {M : Type 1} → statement M
+child_spec =
     tie.close
     (tie.spec
     array-read-first

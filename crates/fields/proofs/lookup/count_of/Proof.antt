@@ -18,5 +18,5 @@ returns c =
     let e = c.entry.ensures ∙ count_at c.before.args.element (search rules) in
     (e, rw e (part_within c.before.args.element (search rules)))
 
-pub count-of-spec : {M : Type 1} → statement M
-count-of-spec = tie.close (tie.spec entry-requires returns)
+pub count_of_spec : {M : Type 1} → statement M
+count_of_spec = tie.close (tie.spec entry-requires returns)

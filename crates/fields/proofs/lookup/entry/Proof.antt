@@ -6,10 +6,10 @@ use borrow.Author.Rules.{rules}
 use Rattle.fields.proofs.lookup.entry.Statement.{statement}
 use Rattle.fields.proofs.lookup.entry.Tie as tie
 
-mul-result : tie.Need-overflow-mul-result
+mul-result : tie.Need-overflow_mul-result
 mul-result c = search rules
 
-shr-result : tie.Need-overflow-shr-result
+shr-result : tie.Need-overflow_shr-result
 shr-result c = search rules
 
 returns : tie.Need-returns

@@ -10,14 +10,14 @@ use Rattle.fields.proofs.FoundLaws.{field_found}
 use Rattle.fields.proofs.lookup.field_in.Statement.{statement}
 use Rattle.fields.proofs.lookup.field_in.Tie as tie
 
-first-of-requires : tie.Need-first-of-requires
+first-of-requires : tie.Need-first_of-first-requires
 first-of-requires c κs = search rules
 
-count-of-requires : tie.Need-count-of-requires
+count-of-requires : tie.Need-count_of-count-requires
 count-of-requires c κs = search rules
 
-add-find : tie.Need-overflow-add-find
-add-find c = let S = c.before.before.before.before in omega (arith, c.count_of.ensures.0, c.before.first_of.ensures, part_within S.args.element S.requires.1)
+add-find : tie.Need-overflow_add-first
+add-find c = let S = c.before.before.before.before in omega (arith, c.count_of-count.ensures.0, c.before.first_of-first.ensures, part_within S.args.element S.requires.1)
 
 key-requires : tie.Need-key-requires
 key-requires c κs = search rules
@@ -28,7 +28,7 @@ find-requires c κs =
     let S = C.before.before.before.before in
     let within = part_within S.args.element S.requires.1 in
     let long : length S.args.keys.now ≡ 52 = ap length S.requires.0 ∙ key_length in
-    (omega arith, omega (arith, C.count_of.ensures.0, C.before.first_of.ensures))
+    (omega arith, omega (arith, C.count_of-count.ensures.0, C.before.first_of-first.ensures))
 
 returns : tie.Need-returns
 returns c =
@@ -36,12 +36,12 @@ returns c =
     let S = C.before.before.before.before in
     let a = S.args in (
       c.find.ensures.0
-          ∙ field_found a.element a.name.now a.keys.now _ _ _ S.requires.1 (λ i. (C.before.before.shared-slice-known2.given i).fits) S.requires.0
-          C.before.first_of.ensures C.count_of.ensures.0 c.before.key.ensures,
-      omega (arith, c.find.ensures.1, C.count_of.ensures.0),
+          ∙ field_found a.element a.name.now a.keys.now _ _ _ S.requires.1 (λ i. (C.before.before.shared_slice_known-2-1.given i).fits) S.requires.0
+          C.before.first_of-first.ensures C.count_of-count.ensures.0 c.before.key.ensures,
+      omega (arith, c.find.ensures.1, C.count_of-count.ensures.0),
     )
 
-pub field-in-spec : {M : Type 1} → statement M
-field-in-spec =
+pub field_in_spec : {M : Type 1} → statement M
+field_in_spec =
     tie.close
     (tie.spec first-of-requires count-of-requires add-find key-requires find-requires returns)

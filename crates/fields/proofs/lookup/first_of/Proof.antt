@@ -16,5 +16,5 @@ returns : tie.Need-returns
 unfolding first_column first_of fields_of
 returns c = c.entry.ensures ∙ first_at c.before.args.element (search rules)
 
-pub first-of-spec : {M : Type 1} → statement M
-first-of-spec = tie.close (tie.spec entry-requires returns)
+pub first_of_spec : {M : Type 1} → statement M
+first_of_spec = tie.close (tie.spec entry-requires returns)

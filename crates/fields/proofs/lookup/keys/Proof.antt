@@ -11,5 +11,5 @@ returns : tie.Need-returns
 unfolding key_column fields_of
 returns c = refl
 
-pub keys-spec : {M : Type 1} → statement M
-keys-spec = tie.close (tie.spec returns)
+pub keys_spec : {M : Type 1} → statement M
+keys_spec = tie.close (tie.spec returns)

@@ -8,15 +8,15 @@ use Rattle.fields.proofs.ColumnLaws.{letters_at}
 use Rattle.fields.proofs.lookup.letters_of.Statement.{statement}
 use Rattle.fields.proofs.lookup.letters_of.Tie as tie
 
-mul-result : tie.Need-overflow-mul-result
+mul-result : tie.Need-offset_bounds-id
 mul-result c = search rules
 
-array-read-result : tie.Need-array-read-result
+array-read-result : tie.Need-bounds-id
 array-read-result c = search rules
 
 returns : tie.Need-returns
 unfolding key_column fields_of
 returns c = letters_at c.args.id c.requires
 
-pub letters-of-spec : {M : Type 1} → statement M
-letters-of-spec = tie.close (tie.spec mul-result array-read-result returns)
+pub letters_of_spec : {M : Type 1} → statement M
+letters_of_spec = tie.close (tie.spec mul-result array-read-result returns)

@@ -11,5 +11,5 @@ returns : tie.Need-returns
 unfolding limit_column fields_of
 returns c = refl
 
-pub limits-spec : {M : Type 1} → statement M
-limits-spec = tie.close (tie.spec returns)
+pub limits_spec : {M : Type 1} → statement M
+limits_spec = tie.close (tie.spec returns)

@@ -12,5 +12,5 @@ part-requires c κs = search rules
 returns : tie.Need-returns
 returns c = let S = c.before in c.part.ensures ∙ handed 2 S.args.limits.now S.args.id _ S.requires.0 (most_at S.args.id S.requires.1)
 
-pub most-in-spec : {M : Type 1} → statement M
-most-in-spec = tie.close (tie.spec part-requires returns)
+pub most_in_spec : {M : Type 1} → statement M
+most_in_spec = tie.close (tie.spec part-requires returns)

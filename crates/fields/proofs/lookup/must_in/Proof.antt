@@ -17,5 +17,5 @@ returns c =
     let S = c.before in
     ap (λ (n : ℕ). eqb n 1) (c.part.ensures ∙ handed 4 S.args.limits.now S.args.id _ S.requires.0 (must_at S.args.id S.requires.1)) ∙ bit_one (field_at S.args.id).must
 
-pub must-in-spec : {M : Type 1} → statement M
-must-in-spec = tie.close (tie.spec part-requires returns)
+pub must_in_spec : {M : Type 1} → statement M
+must_in_spec = tie.close (tie.spec part-requires returns)

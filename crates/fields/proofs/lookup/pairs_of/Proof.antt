@@ -14,5 +14,5 @@ returns : tie.Need-returns
 unfolding pair_count_column
 returns c = c.entry.ensures ∙ pairs_at_lem c.before.args.element (search rules)
 
-pub pairs-of-spec : {M : Type 1} → statement M
-pairs-of-spec = tie.close (tie.spec entry-requires returns)
+pub pairs_of_spec : {M : Type 1} → statement M
+pairs_of_spec = tie.close (tie.spec entry-requires returns)

@@ -10,7 +10,7 @@ use Rattle.fields.proofs.lookup.rule_in.Tie as tie
 part-requires : tie.Need-part-requires
 part-requires c κs = search rules
 
-cast-result : tie.Need-overflow-cast-result
+cast-result : tie.Need-overflow_cast-result
 cast-result c =
     let S = c.before in
     omega (arith, c.part.ensures, handed 0 S.args.limits.now S.args.id _ S.requires.0 (rule_at_lem S.args.id S.requires.1), rule_small S.args.id S.requires.1)
@@ -18,5 +18,5 @@ cast-result c =
 returns : tie.Need-returns
 returns c = let S = c.before in c.part.ensures ∙ handed 0 S.args.limits.now S.args.id _ S.requires.0 (rule_at_lem S.args.id S.requires.1)
 
-pub rule-in-spec : {M : Type 1} → statement M
-rule-in-spec = tie.close (tie.spec part-requires cast-result returns)
+pub rule_in_spec : {M : Type 1} → statement M
+rule_in_spec = tie.close (tie.spec part-requires cast-result returns)

@@ -12,5 +12,5 @@ part-requires c κs = search rules
 returns : tie.Need-returns
 returns c = let S = c.before in c.part.ensures ∙ handed 3 S.args.limits.now S.args.id _ S.requires.0 (tilde_at S.args.id S.requires.1)
 
-pub tildes-in-spec : {M : Type 1} → statement M
-tildes-in-spec = tie.close (tie.spec part-requires returns)
+pub tildes_in_spec : {M : Type 1} → statement M
+tildes_in_spec = tie.close (tie.spec part-requires returns)

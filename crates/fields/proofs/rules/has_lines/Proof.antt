@@ -10,50 +10,50 @@ use Rattle.fields.proofs.RuleLaws.{line_mark, line_break, line_long, line_done}
 use Rattle.fields.proofs.rules.has_lines.Statement.{statement}
 use Rattle.fields.proofs.rules.has_lines.Tie as tie
 
-abbrev invariant-loop : tie.invariant-loop
+abbrev invariant-loop : tie.invariant-loop-i
 invariant-loop v n₀ i₀ n i = (n ≤ i) × ((i ≤ length v) × (lines_ok 0 v ≡ lines_ok n (drop i v)))
 
-abbrev decreases-loop : tie.decreases-loop
+abbrev decreases-loop : tie.decreases-loop-i
 decreases-loop v n₀ i₀ n i = length v - i
 
-loop-holds : tie.Need-loop-init invariant-loop decreases-loop
+loop-holds : tie.Need-loop-i-init invariant-loop decreases-loop
 loop-holds c = (omega arith, (omega arith, refl))
 
-add-j : tie.Need-overflow-add-j invariant-loop decreases-loop
+add-j : tie.Need-overflow_add-j invariant-loop decreases-loop
 add-j c = search rules
 
-shared-slice-read-if1 : tie.Need-shared-slice-read-if1 invariant-loop decreases-loop
+shared-slice-read-if1 : tie.Need-bounds-v-i invariant-loop decreases-loop
 shared-slice-read-if1 c = search rules
 
-add-n : tie.Need-overflow-add-n invariant-loop decreases-loop
+add-n : tie.Need-overflow_add-n invariant-loop decreases-loop
 add-n c = search rules
 
-loop-less : tie.Need-loop-smaller invariant-loop decreases-loop
+loop-less : tie.Need-loop-i-smaller-then-v-i-ne126 invariant-loop decreases-loop
 loop-less c = search rules
 
-loop-again : tie.Need-loop-preserved invariant-loop decreases-loop
+loop-again : tie.Need-loop-i-preserved-then-v-i-ne126 invariant-loop decreases-loop
 loop-again c =
     let L = c.before.before.before in
-    (omega arith, (omega arith, L.loop.invariant.1.1 ∙ line_mark L.loop.n L.before.args.v.now L.loop.i (omega arith) c.if1.true))
+    (omega arith, (omega arith, L.loop-i.invariant.1.1 ∙ line_mark L.loop-i.n L.before.args.v.now L.loop-i.i (omega arith) c.if-v-i-ne126.true))
 
-loop-less-2 : tie.Need-loop-smaller-2 invariant-loop decreases-loop
+loop-less-2 : tie.Need-loop-i-smaller invariant-loop decreases-loop
 loop-less-2 c = search rules
 
-loop-again-2 : tie.Need-loop-preserved-2 invariant-loop decreases-loop
+loop-again-2 : tie.Need-loop-i-preserved invariant-loop decreases-loop
 loop-again-2 c =
     let L = c.before.before.before.before in
-    (omega arith, (omega arith, L.loop.invariant.1.1 ∙ line_break L.loop.n L.before.args.v.now L.loop.i (omega arith) c.before.if1.false c.if2.true))
+    (omega arith, (omega arith, L.loop-i.invariant.1.1 ∙ line_break L.loop-i.n L.before.args.v.now L.loop-i.i (omega arith) c.before.if-v-i-ne126.false c.if-n-le25.true))
 
-returns : tie.Need-returns invariant-loop decreases-loop
+returns : tie.Need-returns-else-n-le25 invariant-loop decreases-loop
 returns c =
     let L = c.before.before.before.before in
-    sym (L.loop.invariant.1.1 ∙ line_long L.loop.n L.before.args.v.now L.loop.i (omega arith) c.before.if1.false c.if2.false)
+    sym (L.loop-i.invariant.1.1 ∙ line_long L.loop-i.n L.before.args.v.now L.loop-i.i (omega arith) c.before.if-v-i-ne126.false c.if-n-le25.false)
 
-returns-2 : tie.Need-returns-2 invariant-loop decreases-loop
-returns-2 c = let L = c.before in sym (L.loop.invariant.1.1 ∙ line_done L.loop.n L.before.args.v.now L.loop.i c.loop-test.false)
+returns-2 : tie.Need-returns invariant-loop decreases-loop
+returns-2 c = let L = c.before in sym (L.loop-i.invariant.1.1 ∙ line_done L.loop-i.n L.before.args.v.now L.loop-i.i c.loop-i-test.false)
 
-pub has-lines-spec : {M : Type 1} → statement M
-has-lines-spec =
+pub has_lines_spec : {M : Type 1} → statement M
+has_lines_spec =
     tie.close
     (tie.spec
     invariant-loop

@@ -5,17 +5,17 @@ use borrow.Author.Rules.{rules}
 use Rattle.fields.proofs.rules.is_text.Statement.{statement}
 use Rattle.fields.proofs.rules.is_text.Tie as tie
 
-is-line-requires : tie.Need-is-line-requires
+is-line-requires : tie.Need-is_line-requires
 is-line-requires c κs = search rules
 
-returns : tie.Need-returns
-returns c = sym (c.before.is-line.ensures c.if1.true c.before.before.before.args.tildes)
+returns : tie.Need-returns-then-is_line
+returns c = sym (c.before.is_line.ensures c.if-is_line.true c.before.before.before.args.tildes)
 
-is-text-each-requires : tie.Need-is-text-each-requires
+is-text-each-requires : tie.Need-is_text_each-requires
 is-text-each-requires c κs = search rules
 
-returns-2 : tie.Need-returns-2
-returns-2 c = c.is-text-each.ensures
+returns-2 : tie.Need-returns
+returns-2 c = c.is_text_each.ensures
 
-pub is-text-spec : {M : Type 1} → statement M
-is-text-spec = tie.close (tie.spec is-line-requires returns is-text-each-requires returns-2)
+pub is_text_spec : {M : Type 1} → statement M
+is_text_spec = tie.close (tie.spec is-line-requires returns is-text-each-requires returns-2)

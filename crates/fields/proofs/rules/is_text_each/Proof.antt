@@ -20,69 +20,69 @@ record Held (v : List ℕ) (t n i : ℕ) : Type 0 where
   pub within : i ≤ length v
   pub right : (every is_decoded v && leb (count 126 v) t) ≡ text_from t n (drop i v)
 
-abbrev invariant-loop : tie.invariant-loop
+abbrev invariant-loop : tie.invariant-loop-i
 invariant-loop v tildes n₀ i₀ n i = Held v tildes n i
 
-abbrev decreases-loop : tie.decreases-loop
+abbrev decreases-loop : tie.decreases-loop-i
 decreases-loop v tildes n₀ i₀ n i = length v - i
 
-loop-holds : tie.Need-loop-init invariant-loop decreases-loop
+loop-holds : tie.Need-loop-i-init invariant-loop decreases-loop
 loop-holds c =
     let a = c.before.args in
     record { few = omega arith; within = omega arith; right = ap (λ (k : ℕ). every is_decoded a.v.now && leb k a.tildes) (sym (zero-add (count 126 a.v.now))) }
 
-add-j : tie.Need-overflow-add-j invariant-loop decreases-loop
+add-j : tie.Need-overflow_add-j invariant-loop decreases-loop
 add-j c = search rules
 
-shared-slice-read-if1 : tie.Need-shared-slice-read-if1 invariant-loop decreases-loop
+shared-slice-read-if1 : tie.Need-bounds-v-i invariant-loop decreases-loop
 shared-slice-read-if1 c = search rules
 
-add-n : tie.Need-overflow-add-n invariant-loop decreases-loop
+add-n : tie.Need-overflow_add-n invariant-loop decreases-loop
 add-n c = search rules
 
-loop-less : tie.Need-loop-smaller invariant-loop decreases-loop
+loop-less : tie.Need-loop-i-smaller-then-v-i-eq126 invariant-loop decreases-loop
 loop-less c = search rules
 
-loop-again : tie.Need-loop-preserved invariant-loop decreases-loop
+loop-again : tie.Need-loop-i-preserved-then-v-i-eq126 invariant-loop decreases-loop
 loop-again c =
     let L = c.before.before.before in
     let a = L.before.before.args in
-    record { few = omega arith; within = omega arith; right = L.loop.invariant.right ∙ text_break a.tildes L.loop.n a.v.now L.loop.i (omega arith) c.if1.true }
+    record { few = omega arith; within = omega arith; right = L.loop-i.invariant.right ∙ text_break a.tildes L.loop-i.n a.v.now L.loop-i.i (omega arith) c.if-v-i-eq126.true }
 
-shared-slice-read-is-decoded : tie.Need-shared-slice-read-is-decoded invariant-loop decreases-loop
+shared-slice-read-is-decoded : tie.Need-bounds-v-i-else-v-i-eq126 invariant-loop decreases-loop
 shared-slice-read-is-decoded c = search rules
 
-is-decoded-requires : tie.Need-is-decoded-requires invariant-loop decreases-loop
+is-decoded-requires : tie.Need-is_decoded-requires invariant-loop decreases-loop
 is-decoded-requires c κs = search rules
 
-loop-less-2 : tie.Need-loop-smaller-2 invariant-loop decreases-loop
+loop-less-2 : tie.Need-loop-i-smaller invariant-loop decreases-loop
 loop-less-2 c = search rules
 
-loop-again-2 : tie.Need-loop-preserved-2 invariant-loop decreases-loop
+loop-again-2 : tie.Need-loop-i-preserved invariant-loop decreases-loop
 loop-again-2 c =
     let L = c.before.before.before.before.before.before in
     let a = L.before.before.args in
     record {
       few = omega arith;
       within = omega arith;
-      right = L.loop.invariant.right
-          ∙ text_mark a.tildes L.loop.n a.v.now L.loop.i (omega arith) c.before.before.before.if1.false (sym c.before.is-decoded.ensures ∙ c.if2.true);
+      right = L.loop-i.invariant.right
+          ∙ text_mark a.tildes L.loop-i.n a.v.now L.loop-i.i (omega arith) c.before.before.before.if-v-i-eq126.false (sym c.before.is_decoded.ensures ∙ c.if-is_decoded.true);
     }
 
-returns : tie.Need-returns invariant-loop decreases-loop
+returns : tie.Need-returns-else-is_decoded invariant-loop decreases-loop
 returns c =
     let L = c.before.before.before.before.before.before in
     let a = L.before.before.args in
-    sym (L.loop.invariant.right ∙ text_bad a.tildes L.loop.n a.v.now L.loop.i (omega arith) (sym c.before.is-decoded.ensures ∙ c.if2.false))
+    sym (L.loop-i.invariant.right ∙ text_bad a.tildes L.loop-i.n a.v.now L.loop-i.i (omega arith) (sym c.before.is_decoded.ensures ∙ c.if-is_decoded.false))
 
-returns-2 : tie.Need-returns-2 invariant-loop decreases-loop
+returns-2 : tie.Need-returns invariant-loop decreases-loop
 returns-2 c =
     let L = c.before in
     let a = L.before.before.args in
-    sym (L.loop.invariant.right ∙ text_done a.tildes L.loop.n a.v.now L.loop.i c.loop-test.false)
+    sym (L.loop-i.invariant.right ∙ text_done a.tildes L.loop-i.n a.v.now L.loop-i.i c.loop-i-test.false)
 
-pub is-text-each-spec : {M : Type 1} → statement M
-is-text-each-spec =
+pub is_text_each_spec : {M : Type 1} → statement M
+is_text_each_spec =
     tie.close
     (tie.spec
     invariant-loop

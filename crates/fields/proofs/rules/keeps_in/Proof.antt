@@ -13,28 +13,28 @@ use Rattle.fields.proofs.rules.keeps_in.Statement.{statement}
 use Rattle.fields.proofs.rules.keeps_in.Tie as tie
 
 -- the bytes and the line breaks of the value
-text-is : (c : tie.After-is-text) → c.is-text.result ≡ (every is_decoded c.before.before.before.args.v.now && leb (count 126 c.before.before.before.args.v.now) (field_at c.before.before.before.args.id).tildes)
-text-is c = c.is-text.ensures ∙ ap (λ (n : ℕ). every is_decoded c.before.before.before.args.v.now && leb (count 126 c.before.before.before.args.v.now) n) c.before.tildes-in.ensures
+text-is : (c : tie.After-is_text) → c.is_text.result ≡ (every is_decoded c.before.before.before.args.v.now && leb (count 126 c.before.before.before.args.v.now) (field_at c.before.before.before.args.id).tildes)
+text-is c = c.is_text.ensures ∙ ap (λ (n : ℕ). every is_decoded c.before.before.before.args.v.now && leb (count 126 c.before.before.before.args.v.now) n) c.before.tildes_in.ensures
 
-tildes-in-requires : tie.Need-tildes-in-requires
+tildes-in-requires : tie.Need-tildes_in-requires
 tildes-in-requires c κs = search rules
 
-is-text-requires : tie.Need-is-text-requires
+is-text-requires : tie.Need-is_text-requires
 is-text-requires c κs = search rules
 
-keeps-form-requires : tie.Need-keeps-form-requires
+keeps-form-requires : tie.Need-keeps_form-requires
 keeps-form-requires c κs = search rules
 
-returns : tie.Need-returns
+returns : tie.Need-returns-then-is_text
 returns c =
     let start = c.before.before.before.before.before in
-    c.keeps-form.ensures ∙ keeps_by (field_at start.args.id) start.args.v.now (sym (text-is c.before.before) ∙ c.before.if1.true)
+    c.keeps_form.ensures ∙ keeps_by (field_at start.args.id) start.args.v.now (sym (text-is c.before.before) ∙ c.before.if-is_text.true)
 
-returns-2 : tie.Need-returns-2
+returns-2 : tie.Need-returns
 returns-2 c =
     let start = c.before.before.before.before in
-    keeps_none (field_at start.args.id) start.args.v.now (sym (text-is c.before) ∙ c.if1.false)
+    keeps_none (field_at start.args.id) start.args.v.now (sym (text-is c.before) ∙ c.if-is_text.false)
 
-pub keeps-in-spec : {M : Type 1} → statement M
-keeps-in-spec =
+pub keeps_in_spec : {M : Type 1} → statement M
+keeps_in_spec =
     tie.close (tie.spec tildes-in-requires is-text-requires keeps-form-requires returns returns-2)

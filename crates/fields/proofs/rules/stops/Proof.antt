@@ -22,7 +22,7 @@ good b h l false y p q k =
     let near = leb-false 126 b p in
     (rw (le-leb 32 b (ltb-false b 32 l), le-leb b 126 (omega arith)), λ d. omega arith)
 
-cast-result : tie.Need-overflow-cast-result
+cast-result : tie.Need-overflow_cast-result
 cast-result c = search rules
 
 returns : tie.Need-returns
@@ -31,5 +31,5 @@ returns c = λ e.
     let (l, k) = neither (ltb b 32) (leb 126 b && ltb b 160) (no_flag _ e) in
     good b (search rules) l (leb 126 b) (ltb b 160) refl refl k
 
-pub stops-spec : {M : Type 1} → statement M
-stops-spec = tie.close (tie.spec cast-result returns)
+pub stops_spec : {M : Type 1} → statement M
+stops_spec = tie.close (tie.spec cast-result returns)

@@ -17,5 +17,5 @@ returns : tie.Need-returns
 unfolding in_set
 returns c = below_not c.run.result (length c.before.before.args.v.now) ∙ ap not (all_from (in_set 48) _ _ _ c.run.ensures)
 
-pub above-zero-spec : {M : Type 1} → statement M
-above-zero-spec = tie.close (tie.spec run-requires returns)
+pub above_zero_spec : {M : Type 1} → statement M
+above_zero_spec = tie.close (tie.spec run-requires returns)

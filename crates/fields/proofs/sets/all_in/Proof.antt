@@ -13,5 +13,5 @@ run-requires c κs = search rules
 returns : tie.Need-returns
 returns c = all_from (in_set _) _ _ _ c.run.ensures
 
-pub all-in-spec : {M : Type 1} → statement M
-all-in-spec = tie.close (tie.spec run-requires returns)
+pub all_in_spec : {M : Type 1} → statement M
+all_in_spec = tie.close (tie.spec run-requires returns)

@@ -5,11 +5,11 @@ use borrow.Author.Tests.{le-leb, lt-leb}
 use Rattle.fields.proofs.sets.between.Statement.{statement}
 use Rattle.fields.proofs.sets.between.Tie as tie
 
-returns : tie.Need-returns
-returns c = rw (lt-leb _ _ c.if1.true)
+returns : tie.Need-returns-then-b-low
+returns c = rw (lt-leb _ _ c.if-b-low.true)
 
-returns-2 : tie.Need-returns-2
-returns-2 c = rw (le-leb _ _ c.if1.false)
+returns-2 : tie.Need-returns
+returns-2 c = rw (le-leb _ _ c.if-b-low.false)
 
-pub between-spec : {M : Type 1} → statement M
-between-spec = tie.close (tie.spec returns returns-2)
+pub between_spec : {M : Type 1} → statement M
+between_spec = tie.close (tie.spec returns returns-2)

@@ -9,14 +9,14 @@ use Rattle.fields.proofs.sets.is_hex.Tie as tie
 between-requires : tie.Need-between-requires
 between-requires c κs = search rules
 
-returns : tie.Need-returns
-returns c = rw (sym c.before.between.ensures ∙ c.if1.true)
+returns : tie.Need-returns-then-between
+returns c = rw (sym c.before.between.ensures ∙ c.if-between.true)
 
 between-requires-2 : tie.Need-between-requires-2
 between-requires-2 c κs = search rules
 
-returns-2 : tie.Need-returns-2
-returns-2 c = rw (sym c.before.before.between.ensures ∙ c.before.if1.false) c.between2.ensures
+returns-2 : tie.Need-returns
+returns-2 c = rw (sym c.before.before.between.ensures ∙ c.before.if-between.false) c.between-2.ensures
 
-pub is-hex-spec : {M : Type 1} → statement M
-is-hex-spec = tie.close (tie.spec between-requires returns between-requires-2 returns-2)
+pub is_hex_spec : {M : Type 1} → statement M
+is_hex_spec = tie.close (tie.spec between-requires returns between-requires-2 returns-2)

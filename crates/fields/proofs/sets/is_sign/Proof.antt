@@ -12,16 +12,16 @@ use Rattle.fields.proofs.sets.is_sign.Tie as tie
 between-requires : tie.Need-between-requires
 between-requires c κs = search rules
 
-returns : tie.Need-returns
+returns : tie.Need-returns-then-between
 unfolding in_set
-returns c = let b = c.before.before.args.b in rw (sym c.before.between.ensures ∙ c.if1.true) (sym (or_true (is_capital b) (is_digit b)))
+returns c = let b = c.before.before.args.b in rw (sym c.before.between.ensures ∙ c.if-between.true) (sym (or_true (is_capital b) (is_digit b)))
 
-is-code-requires : tie.Need-is-code-requires
+is-code-requires : tie.Need-is_code-requires
 is-code-requires c κs = search rules
 
-returns-2 : tie.Need-returns-2
+returns-2 : tie.Need-returns
 unfolding in_set
-returns-2 c = rw (sym c.before.before.between.ensures ∙ c.before.if1.false, or_false) c.is_code.ensures
+returns-2 c = rw (sym c.before.before.between.ensures ∙ c.before.if-between.false, or_false) c.is_code.ensures
 
-pub is-sign-spec : {M : Type 1} → statement M
-is-sign-spec = tie.close (tie.spec between-requires returns is-code-requires returns-2)
+pub is_sign_spec : {M : Type 1} → statement M
+is_sign_spec = tie.close (tie.spec between-requires returns is-code-requires returns-2)

@@ -10,39 +10,39 @@ use Rattle.room.proofs.Runs.{run_ends, run_on, run_over}
 use Rattle.fields.proofs.sets.run.Statement.{statement}
 use Rattle.fields.proofs.sets.run.Tie as tie
 
-abbrev invariant-loop : tie.invariant-loop
+abbrev invariant-loop : tie.invariant-loop-i
 invariant-loop v from k i₀ i = from + until (in_set k) (drop from v) ≡ i + until (in_set k) (drop i v)
 
-abbrev decreases-loop : tie.decreases-loop
+abbrev decreases-loop : tie.decreases-loop-i
 decreases-loop v from k i₀ i = length v - i
 
-loop-holds : tie.Need-loop-init invariant-loop decreases-loop
+loop-holds : tie.Need-loop-i-init invariant-loop decreases-loop
 loop-holds c = refl
 
-shared-slice-read-in-set : tie.Need-shared-slice-read-in-set invariant-loop decreases-loop
+shared-slice-read-in-set : tie.Need-bounds-v-i invariant-loop decreases-loop
 shared-slice-read-in-set c = search rules
 
-in-set-requires : tie.Need-in-set-requires invariant-loop decreases-loop
+in-set-requires : tie.Need-in_set-requires invariant-loop decreases-loop
 in-set-requires c κs = search rules
 
-add-i : tie.Need-overflow-add-i invariant-loop decreases-loop
+add-i : tie.Need-overflow_add-i invariant-loop decreases-loop
 add-i c = search rules
 
-loop-less : tie.Need-loop-smaller invariant-loop decreases-loop
+loop-less : tie.Need-loop-i-smaller invariant-loop decreases-loop
 loop-less c = search rules
 
-loop-again : tie.Need-loop-preserved invariant-loop decreases-loop
+loop-again : tie.Need-loop-i-preserved invariant-loop decreases-loop
 loop-again c =
     let L = c.before.before.before.before in
-    L.loop.invariant ∙ run_on (in_set _) _ L.loop.i (search rules) (sym c.before.in-set.ensures ∙ c.if1.true)
+    L.loop-i.invariant ∙ run_on (in_set _) _ L.loop-i.i (search rules) (sym c.before.in_set.ensures ∙ c.if-in_set.true)
 
-returns : tie.Need-returns invariant-loop decreases-loop
+returns : tie.Need-returns-else-in_set invariant-loop decreases-loop
 returns c =
     let L = c.before.before.before.before in
-    sym (L.loop.invariant ∙ run_ends (in_set _) _ L.loop.i (search rules) (sym c.before.in-set.ensures ∙ c.if1.false))
+    sym (L.loop-i.invariant ∙ run_ends (in_set _) _ L.loop-i.i (search rules) (sym c.before.in_set.ensures ∙ c.if-in_set.false))
 
-returns-2 : tie.Need-returns-2 invariant-loop decreases-loop
-returns-2 c = sym (c.before.loop.invariant ∙ run_over (in_set _) _ c.before.loop.i c.loop-test.false)
+returns-2 : tie.Need-returns invariant-loop decreases-loop
+returns-2 c = sym (c.before.loop-i.invariant ∙ run_over (in_set _) _ c.before.loop-i.i c.loop-i-test.false)
 
 pub run_spec : {M : Type 1} → statement M
 run_spec =

@@ -35,53 +35,53 @@ module _ (rows : List ℕ) (n count i : ℕ) (h : 0 < i) (C : Counted rows n cou
         right = add-one count ∙ ap suc (C.right ∙ ap (λ k. numbers_from k n rows) behind) ∙ sym (one_with n (i - 1) rows (omega arith) e);
       }
 
-abbrev invariant-loop : tie.invariant-loop
+abbrev invariant-loop : tie.invariant-loop-i
 invariant-loop rows n count₀ i₀ count i = Counted rows n count i
 
-abbrev decreases-loop : tie.decreases-loop
+abbrev decreases-loop : tie.decreases-loop-i
 decreases-loop rows n count₀ i₀ count i = i
 
-loop-holds : tie.Need-loop-init invariant-loop decreases-loop
+loop-holds : tie.Need-loop-i-init invariant-loop decreases-loop
 loop-holds c = record { within = search rules; few = search rules; right = none_behind c.before.args.n c.before.args.rows.now }
 
-sub-i : tie.Need-overflow-sub-i invariant-loop decreases-loop
+sub-i : tie.Need-overflow_sub-i invariant-loop decreases-loop
 sub-i c = search rules
 
-number-at-requires : tie.Need-number-at-requires invariant-loop decreases-loop
+number-at-requires : tie.Need-number_at-requires invariant-loop decreases-loop
 number-at-requires c κs = search rules
 
-add-count : tie.Need-overflow-add-count invariant-loop decreases-loop
+add-count : tie.Need-overflow_add-count invariant-loop decreases-loop
 add-count c = search rules
 
-loop-less : tie.Need-loop-smaller invariant-loop decreases-loop
+loop-less : tie.Need-loop-i-smaller-then-number_at-ne0 invariant-loop decreases-loop
 loop-less c = search rules
 
-loop-again : tie.Need-loop-preserved invariant-loop decreases-loop
+loop-again : tie.Need-loop-i-preserved-then-number_at-ne0 invariant-loop decreases-loop
 loop-again c =
     let N = c.before in
     let L = N.before.before in
     let a = L.before.before.args in
-    counted-one a.rows.now a.n L.loop.count L.loop.i N.before.loop-test.true L.loop.invariant (λ e. c.if1.true (N.number_at.ensures ∙ e))
+    counted-one a.rows.now a.n L.loop-i.count L.loop-i.i N.before.loop-i-test.true L.loop-i.invariant (λ e. c.if-number_at-ne0.true (N.number_at.ensures ∙ e))
 
-loop-less-2 : tie.Need-loop-smaller-2 invariant-loop decreases-loop
+loop-less-2 : tie.Need-loop-i-smaller invariant-loop decreases-loop
 loop-less-2 c = search rules
 
-loop-again-2 : tie.Need-loop-preserved-2 invariant-loop decreases-loop
+loop-again-2 : tie.Need-loop-i-preserved invariant-loop decreases-loop
 loop-again-2 c =
     let N = c.before in
     let L = N.before.before in
     let a = L.before.before.args in
-    counted_none a.rows.now a.n L.loop.count L.loop.i N.before.loop-test.true L.loop.invariant (sym N.number_at.ensures ∙ c.if1.false)
+    counted_none a.rows.now a.n L.loop-i.count L.loop-i.i N.before.loop-i-test.true L.loop-i.invariant (sym N.number_at.ensures ∙ c.if-number_at-ne0.false)
 
 returns : tie.Need-returns invariant-loop decreases-loop
 returns c =
     let L = c.before in
     let a = L.before.before.args in
-    let e : L.loop.i ≡ 0 = omega (arith, c.loop-test.false) in
-    L.loop.invariant.right ∙ ap (λ i. numbers_from i a.n a.rows.now) e
+    let e : L.loop-i.i ≡ 0 = omega (arith, c.loop-i-test.false) in
+    L.loop-i.invariant.right ∙ ap (λ i. numbers_from i a.n a.rows.now) e
 
-pub count-numbers-spec : {M : Type 1} → statement M
-count-numbers-spec =
+pub count_numbers_spec : {M : Type 1} → statement M
+count_numbers_spec =
     tie.close
     (tie.spec
     invariant-loop

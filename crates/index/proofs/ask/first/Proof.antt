@@ -12,62 +12,62 @@ use Rattle.index.proofs.ask.first.Statement.{statement}
 use Rattle.index.proofs.ask.first.Tie as tie
 
 -- the rows that hold the number stand in the pairs that were found
-found_at : (c : tie.After-known-told) → let a = c.before.before.before.before.before.before.args in let g = c.before.at.given.0 in
+found_at : (c : tie.In-Span) → let a = c.before.before.before.before.before.before.args in let g = c.before.at-1.given.0 in
     (is : List ℕ) × ((replied a.rows.now a.count a.index.now a.length a.number ≡ reply_of is) × Stand a.index.now is g.0 g.1.0)
 found_at c =
     let a = c.before.before.before.before.before.before.args in
-    subst (λ r. Finds r (replied a.rows.now a.count a.index.now a.length a.number) a.index.now) c.before.at.given.1 c.before.before.before.find.ensures
+    subst (λ r. Finds r (replied a.rows.now a.count a.index.now a.length a.number) a.index.now) c.before.at-1.given.1 c.before.before.before.find.ensures
 
 find-requires : tie.Need-find-requires
 find-requires c κs = search rules
 
-enum_told : tie.Need-enum-told
+enum_told : tie.Need-enum_told-1
 enum_told c = search rules
 
-enum-told-2 : tie.Need-enum-told-2
+enum-told-2 : tie.Need-enum_told-in-OtherIndex
 enum-told-2 c = search rules
 
-enum-known-at : tie.Need-enum-known-at
+enum-known-at : tie.Need-enum_known-at
 enum-known-at c = search rules
 
-returns : tie.Need-returns
+returns : tie.Need-returns-then-count-eq0
 returns c =
     let (is, (e, S)) = found_at c.before in
-    sym (ap reply_told (e ∙ told_none is (S.many ∙ c.if1.true)))
+    sym (ap reply_told (e ∙ told_none is (S.many ∙ c.if-count-eq0.true)))
 
-mul-t11 : tie.Need-overflow-mul-t11
+mul-t11 : tie.Need-overflow_mul-result
 mul-t11 c = search (rules, (found_at c.before).1.1)
 
-add-t12 : tie.Need-overflow-add-t12
+add-t12 : tie.Need-overflow_add-result
 add-t12 c = search (rules, (found_at c.before).1.1)
 
-mul-t13 : tie.Need-overflow-mul-t13
+mul-t13 : tie.Need-offset_bounds-index-at
 mul-t13 c = search (rules, (found_at c.before).1.1)
 
-shared-slice-read-t15 : tie.Need-shared-slice-read-t15
+shared-slice-read-t15 : tie.Need-bounds-index-at
 shared-slice-read-t15 c = search (rules, (found_at c.before.before).1.1)
 
-cast-t16 : tie.Need-overflow-cast-t16
+cast-t16 : tie.Need-overflow_cast-result
 cast-t16 c = search (rules, (found_at c.before.before).1.1)
 
-returns-2 : tie.Need-returns-2
+returns-2 : tie.Need-returns-in-NoRoom
 returns-2 c =
     let a = c.before.before.before.before.before.args in
-    sym (ap reply_told (subst (λ r. Finds r (replied a.rows.now a.count a.index.now a.length a.number) a.index.now) c.enum_told.given.1 c.before.before.find.ensures))
+    sym (ap reply_told (subst (λ r. Finds r (replied a.rows.now a.count a.index.now a.length a.number) a.index.now) c.enum_told-1.given.1 c.before.before.find.ensures))
 
-returns-3 : tie.Need-returns-3
+returns-3 : tie.Need-returns-in-OtherIndex
 returns-3 c =
     let a = c.before.before.before.before.before.args in
-    sym (ap reply_told (subst (λ r. Finds r (replied a.rows.now a.count a.index.now a.length a.number) a.index.now) c.enum-told2.given.1 c.before.before.find.ensures))
+    sym (ap reply_told (subst (λ r. Finds r (replied a.rows.now a.count a.index.now a.length a.number) a.index.now) c.enum_told-in-OtherIndex-1.given.1 c.before.before.find.ensures))
 
-returns-4 : tie.Need-returns-4
+returns-4 : tie.Need-returns-else-count-eq0
 returns-4 c =
     let K = c.before.before in
     let a = c.before.before.before.before.before.before.before.before.args in
-    let g = K.before.at.given.0 in
+    let g = K.before.at-1.given.0 in
     let (is, (e, S)) = found_at K in
-    let x = first_stands a.index.now is g.0 g.1.0 S c.before.if1.false in
-    sym (ap reply_told e ∙ told_first is g.1.0 S.many c.before.if1.false ∙ ap (λ i. Held i g.1.0) (sym x))
+    let x = first_stands a.index.now is g.0 g.1.0 S c.before.if-count-eq0.false in
+    sym (ap reply_told e ∙ told_first is g.1.0 S.many c.before.if-count-eq0.false ∙ ap (λ i. Held i g.1.0) (sym x))
 
 pub first_spec : {M : Type 1} → statement M
 first_spec =

@@ -16,44 +16,44 @@ behind s i h =
     let e : suc (i - 1) ≡ i = omega arith in
     ap (λ (k : ℕ). before (pair_at s (i - 1)) (pair_at s k)) (sym e) ∙ ap (in_place s) e
 
-returns : tie.Need-returns
+returns : tie.Need-returns-then-i-eq0
 returns c = search rules
 
-sub-comes-before : tie.Need-overflow-sub-comes-before
+sub-comes-before : tie.Need-overflow_sub-i
 sub-comes-before c = search rules
 
-mul-comes-before : tie.Need-overflow-mul-comes-before
+mul-comes-before : tie.Need-overflow_mul-i
 mul-comes-before c = search rules
 
-mul-comes-before-2 : tie.Need-overflow-mul-comes-before-2
+mul-comes-before-2 : tie.Need-offset_bounds-index-i
 mul-comes-before-2 c = search rules
 
-shared-slice-read-comes-before : tie.Need-shared-slice-read-comes-before
+shared-slice-read-comes-before : tie.Need-bounds-index-i
 shared-slice-read-comes-before c = search rules
 
-mul-comes-before-3 : tie.Need-overflow-mul-comes-before-3
+mul-comes-before-3 : tie.Need-overflow_mul-i-2
 mul-comes-before-3 c = search rules
 
-add-comes-before : tie.Need-overflow-add-comes-before
+add-comes-before : tie.Need-overflow_add-i
 add-comes-before c = search rules
 
-mul-comes-before-4 : tie.Need-overflow-mul-comes-before-4
+mul-comes-before-4 : tie.Need-offset_bounds-index-i-2
 mul-comes-before-4 c = search rules
 
-shared-slice-read-comes-before-2 : tie.Need-shared-slice-read-comes-before-2
+shared-slice-read-comes-before-2 : tie.Need-bounds-index-i-2
 shared-slice-read-comes-before-2 c = search rules
 
-comes-before-requires : tie.Need-comes-before-requires
+comes-before-requires : tie.Need-comes_before-requires
 comes-before-requires c κs = search rules
 
-returns-2 : tie.Need-returns-2
+returns-2 : tie.Need-returns
 returns-2 c =
     let E = c.before.before.before in
     let a = E.before.before.args in
-    c.comes-before.ensures ∙ behind a.index.now a.i E.if1.false
+    c.comes_before.ensures ∙ behind a.index.now a.i E.if-i-eq0.false
 
-pub in-place-spec : {M : Type 1} → statement M
-in-place-spec =
+pub in_place_spec : {M : Type 1} → statement M
+in_place_spec =
     tie.close
     (tie.spec
     returns

@@ -29,78 +29,78 @@ module _ (rs : List Row) (s : List ℕ) (len i : ℕ) (h : i < len) (T : Testing
   right : held rs (pair_at s i) ≡ true → in_place s i ≡ true → Testing rs s len (i + 1)
   right e f = record { within = omega arith; decided = T.decided ∙ turn rs s len i h ∙ rw (e, f) }
 
-abbrev invariant-loop : tie.invariant-loop
+abbrev invariant-loop : tie.invariant-loop-i
 invariant-loop rows n index len i₀ i = Testing (rows_in n rows) index len i
 
-abbrev decreases-loop : tie.decreases-loop
+abbrev decreases-loop : tie.decreases-loop-i
 decreases-loop rows n index len i₀ i = len - i
 
 -- the row of pair i holds its number
-row_at : (c : tie.Else2 invariant-loop decreases-loop) → let L = c.before.before.before in let a = L.before.before.before.before.before.args in
-    held (rows_in a.n a.rows.now) (pair_at a.index.now L.loop.i) ≡ true
-row_at c = sym c.before.row-right.ensures ∙ not-false _ c.if2.false
+row_at : (c : tie.Else-not-row_right invariant-loop decreases-loop) → let L = c.before.before.before in let a = L.before.before.before.before.before.args in
+    held (rows_in a.n a.rows.now) (pair_at a.index.now L.loop-i.i) ≡ true
+row_at c = sym c.before.row_right.ensures ∙ not-false _ c.if-not-row_right.false
 
-count-numbers-requires : tie.Need-count-numbers-requires invariant-loop decreases-loop
+count-numbers-requires : tie.Need-count_numbers-requires invariant-loop decreases-loop
 count-numbers-requires c κs = search rules
 
-returns : tie.Need-returns invariant-loop decreases-loop
+returns : tie.Need-returns-then-count_numbers-len invariant-loop decreases-loop
 returns c =
     let C = c.before in
     let a = C.before.before.before.args in
-    sym (others (rows_in a.n a.rows.now) a.index.now a.len (λ e. c.if1.true (C.count-numbers.ensures ∙ e)))
+    sym (others (rows_in a.n a.rows.now) a.index.now a.len (λ e. c.if-count_numbers-len.true (C.count_numbers.ensures ∙ e)))
 
-loop-holds : tie.Need-loop-init invariant-loop decreases-loop
+loop-holds : tie.Need-loop-i-init invariant-loop decreases-loop
 loop-holds c =
     let C = c.before in
     let a = C.before.before.before.args in
-    record { within = omega arith; decided = as_tested (rows_in a.n a.rows.now) a.index.now a.len (sym C.count-numbers.ensures ∙ c.if1.false) }
+    record { within = omega arith; decided = as_tested (rows_in a.n a.rows.now) a.index.now a.len (sym C.count_numbers.ensures ∙ c.if-count_numbers-len.false) }
 
-row-right-requires : tie.Need-row-right-requires invariant-loop decreases-loop
+row-right-requires : tie.Need-row_right-requires invariant-loop decreases-loop
 row-right-requires c κs = search rules
 
-returns-2 : tie.Need-returns-2 invariant-loop decreases-loop
+returns-2 : tie.Need-returns-then-not-row_right invariant-loop decreases-loop
 returns-2 c =
     let R = c.before in
     let L = R.before.before in
     let a = L.before.before.before.before.before.args in
-    let e = sym R.row-right.ensures ∙ not-true _ c.if2.true in
-    sym (wrong_row (rows_in a.n a.rows.now) a.index.now a.len L.loop.i R.before.loop-test.true L.loop.invariant e)
+    let e = sym R.row_right.ensures ∙ not-true _ c.if-not-row_right.true in
+    sym (wrong_row (rows_in a.n a.rows.now) a.index.now a.len L.loop-i.i R.before.loop-i-test.true L.loop-i.invariant e)
 
-in-place-requires : tie.Need-in-place-requires invariant-loop decreases-loop
+in-place-requires : tie.Need-in_place-requires invariant-loop decreases-loop
 in-place-requires c κs = search rules
 
-returns-3 : tie.Need-returns-3 invariant-loop decreases-loop
+returns-3 : tie.Need-returns-then-not-in_place invariant-loop decreases-loop
 returns-3 c =
     let P = c.before in
     let I = P.before.before.before in
     let L = I.before in
     let a = L.before.before.before.before.before.args in
-    let e = sym P.in_place.ensures ∙ not-true _ c.if3.true in
-    sym (wrong-place (rows_in a.n a.rows.now) a.index.now a.len L.loop.i I.loop-test.true L.loop.invariant (row_at P.before) e)
+    let e = sym P.in_place.ensures ∙ not-true _ c.if-not-in_place.true in
+    sym (wrong-place (rows_in a.n a.rows.now) a.index.now a.len L.loop-i.i I.loop-i-test.true L.loop-i.invariant (row_at P.before) e)
 
-add-i : tie.Need-overflow-add-i invariant-loop decreases-loop
+add-i : tie.Need-overflow_add-i invariant-loop decreases-loop
 add-i c = search rules
 
-loop-less : tie.Need-loop-smaller invariant-loop decreases-loop
+loop-less : tie.Need-loop-i-smaller invariant-loop decreases-loop
 loop-less c = search rules
 
-loop-again : tie.Need-loop-preserved invariant-loop decreases-loop
+loop-again : tie.Need-loop-i-preserved invariant-loop decreases-loop
 loop-again c =
     let P = c.before in
     let I = P.before.before.before in
     let L = I.before in
     let a = L.before.before.before.before.before.args in
-    let e = sym P.in_place.ensures ∙ not-false _ c.if3.false in
-    right (rows_in a.n a.rows.now) a.index.now a.len L.loop.i I.loop-test.true L.loop.invariant (row_at P.before) e
+    let e = sym P.in_place.ensures ∙ not-false _ c.if-not-in_place.false in
+    right (rows_in a.n a.rows.now) a.index.now a.len L.loop-i.i I.loop-i-test.true L.loop-i.invariant (row_at P.before) e
 
-returns-4 : tie.Need-returns-4 invariant-loop decreases-loop
+returns-4 : tie.Need-returns invariant-loop decreases-loop
 returns-4 c =
     let L = c.before in
     let a = L.before.before.before.before.before.args in
-    sym (L.loop.invariant.decided ∙ at_end_lem (rows_in a.n a.rows.now) a.index.now a.len L.loop.i c.loop-test.false)
+    sym (L.loop-i.invariant.decided ∙ at_end_lem (rows_in a.n a.rows.now) a.index.now a.len L.loop-i.i c.loop-i-test.false)
 
-pub is-index-spec : {M : Type 1} → statement M
-is-index-spec =
+pub is_index_spec : {M : Type 1} → statement M
+is_index_spec =
     tie.close
     (tie.spec
     invariant-loop

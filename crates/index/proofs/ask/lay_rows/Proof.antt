@@ -30,70 +30,70 @@ finished is list₀ list k e f =
     let z : length is ≡ 0 + length is = omega arith in
     f ∙ ap (λ (n : ℕ). take n is ++ drop n list₀) e ∙ ap (λ (l : List ℕ). l ++ drop (length is) list₀) (take-length is) ∙ ap (λ (n : ℕ). is ++ drop n list₀) z
 
-abbrev invariant-loop : tie.invariant-loop
+abbrev invariant-loop : tie.invariant-loop-k
 invariant-loop index at count list₀ k₀ list k = Laying index at count list₀ list k
 
-abbrev decreases-loop : tie.decreases-loop
+abbrev decreases-loop : tie.decreases-loop-k
 decreases-loop index at count list₀ k₀ list k = count - k
 
-loop-holds : tie.Need-loop-init invariant-loop decreases-loop
+loop-holds : tie.Need-loop-k-init invariant-loop decreases-loop
 loop-holds c = record { within = omega arith; long = refl; laid-now = refl }
 
-add-list : tie.Need-overflow-add-list invariant-loop decreases-loop
+add-list : tie.Need-overflow_add-list invariant-loop decreases-loop
 add-list c = search rules
 
-mul-list : tie.Need-overflow-mul-list invariant-loop decreases-loop
+mul-list : tie.Need-overflow_mul-list invariant-loop decreases-loop
 mul-list c = search rules
 
-add-list-2 : tie.Need-overflow-add-list-2 invariant-loop decreases-loop
+add-list-2 : tie.Need-overflow_add-list-in-loop-k invariant-loop decreases-loop
 add-list-2 c = search rules
 
-mul-list-2 : tie.Need-overflow-mul-list-2 invariant-loop decreases-loop
+mul-list-2 : tie.Need-offset_bounds-index-at invariant-loop decreases-loop
 mul-list-2 c = search rules
 
-shared-slice-read-list : tie.Need-shared-slice-read-list invariant-loop decreases-loop
+shared-slice-read-list : tie.Need-bounds-index-at invariant-loop decreases-loop
 shared-slice-read-list c = search rules
 
-mul-list-3 : tie.Need-overflow-mul-list-3 invariant-loop decreases-loop
+mul-list-3 : tie.Need-offset_bounds-list-k invariant-loop decreases-loop
 mul-list-3 c = search rules
 
-slice-write-list : tie.Need-slice-write-list invariant-loop decreases-loop
+slice-write-list : tie.Need-bounds-list-k invariant-loop decreases-loop
 slice-write-list c = search rules
 
-add-k : tie.Need-overflow-add-k invariant-loop decreases-loop
+add-k : tie.Need-overflow_add-k invariant-loop decreases-loop
 add-k c = search rules
 
-loop-less : tie.Need-loop-smaller invariant-loop decreases-loop
+loop-less : tie.Need-loop-k-smaller invariant-loop decreases-loop
 loop-less c = search rules
 
-loop-again : tie.Need-loop-preserved invariant-loop decreases-loop
+loop-again : tie.Need-loop-k-preserved invariant-loop decreases-loop
 loop-again c =
     let L = c.before.before in
     let a = L.before.args in
-    let v = L.loop.invariant in
-    let h = c.before.loop-test.true in
+    let v = L.loop-k.invariant in
+    let h = c.before.loop-k-test.true in
     let is = wanted a.index.now a.at a.count in
     let n = rows_of_long a.count (drop (2 * a.at) a.index.now) in
-    let x = row_there_lem a.count a.index.now a.at L.loop.k h in
+    let x = row_there_lem a.count a.index.now a.at L.loop-k.k h in
     record {
       within = omega (arith, h);
-      long = length-set L.loop.list L.loop.k _ ∙ v.long;
-      laid-now = stored is a.list.now L.loop.list L.loop.k _ 0 v.laid-now x (omega (arith, h, n)) (omega (arith, h, L.before.requires));
+      long = length-set L.loop-k.list L.loop-k.k _ ∙ v.long;
+      laid-now = stored is a.list.now L.loop-k.list L.loop-k.k _ 0 v.laid-now x (omega (arith, h, n)) (omega (arith, h, L.before.requires));
     }
 
-same_length : tie.Need-same-length invariant-loop decreases-loop
-same_length c = c.before.loop.invariant.long
+same_length : tie.Need-shape_of-list invariant-loop decreases-loop
+same_length c = c.before.loop-k.invariant.long
 
 returns : tie.Need-returns invariant-loop decreases-loop
 returns c =
     let L = c.before in
     let a = L.before.args in
-    let v = L.loop.invariant in
+    let v = L.loop-k.invariant in
     let n = rows_of_long a.count (drop (2 * a.at) a.index.now) in
-    finished (wanted a.index.now a.at a.count) a.list.now L.loop.list L.loop.k (omega (arith, v.within, c.loop-test.false, n)) v.laid-now
+    finished (wanted a.index.now a.at a.count) a.list.now L.loop-k.list L.loop-k.k (omega (arith, v.within, c.loop-k-test.false, n)) v.laid-now
 
-pub lay-rows-spec : {M : Type 1} → statement M
-lay-rows-spec =
+pub lay_rows_spec : {M : Type 1} → statement M
+lay_rows_spec =
     tie.close
     (tie.spec
     invariant-loop

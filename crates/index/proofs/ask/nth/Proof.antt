@@ -14,89 +14,89 @@ use Rattle.index.proofs.ask.nth.Statement.{statement}
 use Rattle.index.proofs.ask.nth.Tie as tie
 
 -- the rows that hold the number stand in the pairs that were found
-found_at : (c : tie.After-known-told) → let a = c.before.before.before.before.before.before.args in let g = c.before.at.given.0 in
+found_at : (c : tie.In-Span) → let a = c.before.before.before.before.before.before.args in let g = c.before.at-1.given.0 in
     (is : List ℕ) × ((replied a.rows.now a.count a.index.now a.length a.number ≡ reply_of is) × Stand a.index.now is g.0 g.1.0)
 found_at c =
     let a = c.before.before.before.before.before.before.args in
-    subst (λ r. Finds r (replied a.rows.now a.count a.index.now a.length a.number) a.index.now) c.before.at.given.1 c.before.before.before.find.ensures
+    subst (λ r. Finds r (replied a.rows.now a.count a.index.now a.length a.number) a.index.now) c.before.at-1.given.1 c.before.before.before.find.ensures
 
 find-requires : tie.Need-find-requires
 find-requires c κs = search rules
 
-enum_told : tie.Need-enum-told
+enum_told : tie.Need-enum_told-1
 enum_told c = search rules
 
-enum-told-2 : tie.Need-enum-told-2
+enum-told-2 : tie.Need-enum_told-in-OtherIndex
 enum-told-2 c = search rules
 
-enum-known-at : tie.Need-enum-known-at
+enum-known-at : tie.Need-enum_known-at
 enum-known-at c = search rules
 
-returns : tie.Need-returns
+returns : tie.Need-returns-then-count-eq0
 returns c =
     let a = c.before.before.before.before.before.before.before.args in
     let (is, (e, S)) = found_at c.before in
-    sym (ap (nth_told a.k) (e ∙ told_none is (S.many ∙ c.if1.true)))
+    sym (ap (nth_told a.k) (e ∙ told_none is (S.many ∙ c.if-count-eq0.true)))
 
-returns-2 : tie.Need-returns-2
+returns-2 : tie.Need-returns-then-k-lt1
 returns-2 c =
     let E = c.before in
     let a = c.before.before.before.before.before.before.before.before.args in
     let (is, (e, S)) = found_at E.before in
-    sym (ap (nth_told a.k) e ∙ told_nth is a.k (λ z. E.if1.false (sym S.many ∙ z)) ∙ kth_none is a.k c.if2.true)
+    sym (ap (nth_told a.k) e ∙ told_nth is a.k (λ z. E.if-count-eq0.false (sym S.many ∙ z)) ∙ kth_none is a.k c.if-k-lt1.true)
 
-returns-3 : tie.Need-returns-3
+returns-3 : tie.Need-returns-then-k-count
 returns-3 c =
     let E = c.before.before in
     let a = c.before.before.before.before.before.before.before.before.before.args in
-    let h = c.if3.true in
+    let h = c.if-k-count.true in
     let (is, (e, S)) = found_at E.before in
-    sym (ap (nth_told a.k) e ∙ told_nth is a.k (λ z. E.if1.false (sym S.many ∙ z)) ∙ kth_past is a.k (omega (arith, h, S.many)))
+    sym (ap (nth_told a.k) e ∙ told_nth is a.k (λ z. E.if-count-eq0.false (sym S.many ∙ z)) ∙ kth_past is a.k (omega (arith, h, S.many)))
 
-add-t13 : tie.Need-overflow-add-t13
+add-t13 : tie.Need-overflow_add-result
 add-t13 c = search (rules, (found_at c.before.before.before).1.1)
 
-sub-t14 : tie.Need-overflow-sub-t14
+sub-t14 : tie.Need-overflow_sub-result
 sub-t14 c = search (rules, (found_at c.before.before.before).1.1)
 
-mul-t15 : tie.Need-overflow-mul-t15
+mul-t15 : tie.Need-overflow_mul-result
 mul-t15 c = search (rules, (found_at c.before.before.before).1.1)
 
-add-t16 : tie.Need-overflow-add-t16
+add-t16 : tie.Need-overflow_add-result-in-Span
 add-t16 c = search (rules, (found_at c.before.before.before).1.1)
 
-mul-t17 : tie.Need-overflow-mul-t17
+mul-t17 : tie.Need-offset_bounds-index-at
 mul-t17 c = search (rules, (found_at c.before.before.before).1.1)
 
-shared-slice-read-t19 : tie.Need-shared-slice-read-t19
+shared-slice-read-t19 : tie.Need-bounds-index-at
 shared-slice-read-t19 c = search (rules, (found_at c.before.before.before.before).1.1)
 
-returns-4 : tie.Need-returns-4
+returns-4 : tie.Need-returns-in-NoRoom
 returns-4 c =
     let a = c.before.before.before.before.before.args in
-    sym (ap (nth_told a.k) (subst (λ r. Finds r (replied a.rows.now a.count a.index.now a.length a.number) a.index.now) c.enum_told.given.1 c.before.before.find.ensures))
+    sym (ap (nth_told a.k) (subst (λ r. Finds r (replied a.rows.now a.count a.index.now a.length a.number) a.index.now) c.enum_told-1.given.1 c.before.before.find.ensures))
 
-returns-5 : tie.Need-returns-5
+returns-5 : tie.Need-returns-in-OtherIndex
 returns-5 c =
     let a = c.before.before.before.before.before.args in
-    sym (ap (nth_told a.k) (subst (λ r. Finds r (replied a.rows.now a.count a.index.now a.length a.number) a.index.now) c.enum-told2.given.1 c.before.before.find.ensures))
+    sym (ap (nth_told a.k) (subst (λ r. Finds r (replied a.rows.now a.count a.index.now a.length a.number) a.index.now) c.enum_told-in-OtherIndex-1.given.1 c.before.before.find.ensures))
 
-returns-6 : tie.Need-returns-6
+returns-6 : tie.Need-returns-else-k-count
 returns-6 c =
     let T = c.before in
     let E = T.before.before in
     let a = c.before.before.before.before.before.before.before.before.before.before.args in
-    let g = E.before.before.at.given.0 in
-    let h = T.before.if2.false in
-    let k = T.if3.false in
+    let g = E.before.before.at-1.given.0 in
+    let h = T.before.if-k-lt1.false in
+    let k = T.if-k-count.false in
     let (is, (e, S)) = found_at E.before in
     let x : g.0 + a.k - 1 ≡ g.0 + (a.k - 1) = omega (arith, h) in
     let y = ap (λ j. get_or a.index.now (2 * j + 1) 0) x ∙ row_stands a.index.now is g.0 g.1.0 (a.k - 1) S (omega (arith, h, k)) in
-    let z = told_nth is a.k (λ n. E.if1.false (sym S.many ∙ n)) ∙ kth_row is a.k h (omega (arith, k, S.many)) in
+    let z = told_nth is a.k (λ n. E.if-count-eq0.false (sym S.many ∙ n)) ∙ kth_row is a.k h (omega (arith, k, S.many)) in
     sym (ap (nth_told a.k) e ∙ z ∙ ap Row (sym y))
 
-pub nth-spec : {M : Type 1} → statement M
-nth-spec =
+pub nth_spec : {M : Type 1} → statement M
+nth_spec =
     tie.close
     (tie.spec
     find-requires

@@ -17,5 +17,5 @@ empty-requires c κs = search rules
 returns : tie.Need-returns
 returns c = ap made c.empty.ensures
 
-pub no-room-spec : {M : Type 1} → statement M
-no-room-spec = tie.close (tie.spec empty-requires returns)
+pub no_room_spec : {M : Type 1} → statement M
+no_room_spec = tie.close (tie.spec empty-requires returns)

@@ -14,50 +14,50 @@ use Rattle.index.proofs.reading.read.Statement.{statement}
 use Rattle.index.proofs.reading.read.Tie as tie
 
 -- where the call began
-abbrev start : tie.After-read → tie.Start
+abbrev start : tie.After-read-reading → tie.Start
 start c = c.before.before.before.before.before.before.before.before.before.before.before
 
 -- the room for the index is enough
-roomy : (c : tie.After-read) → true ≡ leb pair_room (pairs_lent (length (start c).args.index.now))
-roomy c = sym (not-false _ c.before.before.before.if1.false) ∙ c.before.before.before.before.index-fits.ensures
+roomy : (c : tie.After-read-reading) → true ≡ leb pair_room (pairs_lent (length (start c).args.index.now))
+roomy c = sym (not-false _ c.before.before.before.if-not-index_fits.false) ∙ c.before.before.before.before.index_fits.ensures
 
-index-fits-requires : tie.Need-index-fits-requires
+index-fits-requires : tie.Need-index_fits-requires
 index-fits-requires c κs = search rules
 
-no-room-requires : tie.Need-no-room-requires
+no-room-requires : tie.Need-no_room-requires
 no-room-requires c κs = search rules
 
-returns : tie.Need-returns
+returns : tie.Need-returns-then-not-index_fits
 returns c =
     let F = c.before.before in
     let a = F.before.before.before.before.before.before.before.args in
-    too_small a.rows.now a.text.now a.index.now _ _ (sym (not-true _ c.before.if1.true) ∙ F.index-fits.ensures) c.no_room.ensures
+    too_small a.rows.now a.text.now a.index.now _ _ (sym (not-true _ c.before.if-not-index_fits.true) ∙ F.index_fits.ensures) c.no_room.ensures
 
-read-requires : tie.Need-read-requires
+read-requires : tie.Need-read-reading-requires
 read-requires c κs = search rules
 
-with-index-requires : tie.Need-with-index-requires
+with-index-requires : tie.Need-with_index-requires
 with-index-requires c κs =
     let R = c.before.before.before.before.before.before in
     let a = (start R).args in
     call_asked a.rows.now a.text.now a.index.now _ _ _ R.read.result _ _ (roomy R) R.read.ensures
 
-same_length : tie.Need-same-length
+same_length : tie.Need-shape_of-rows
 same_length c = search rules
 
-same-length-2 : tie.Need-same-length-2
+same-length-2 : tie.Need-shape_of-text
 same-length-2 c = search rules
 
-same-length-3 : tie.Need-same-length-3
+same-length-3 : tie.Need-shape_of-index
 same-length-3 c = search rules
 
-returns-2 : tie.Need-returns-2
+returns-2 : tie.Need-returns
 returns-2 c =
     let I = c.before.before in
     let R = I.before.before.before.before.before.before.before in
     let a = (start R).args in
-    indexed (answered a.rows.now a.text.now a.buffer.now a.starts.now a.lens.now) a.rows.now a.text.now a.index.now R.read.result _ _ I.with-index.result _ (roomy R) R.read.ensures
-    I.with-index.ensures.0 I.with-index.ensures.1 I.with-index.ensures.2
+    indexed (answered a.rows.now a.text.now a.buffer.now a.starts.now a.lens.now) a.rows.now a.text.now a.index.now R.read.result _ _ I.with_index.result _ (roomy R) R.read.ensures
+    I.with_index.ensures.0 I.with_index.ensures.1 I.with_index.ensures.2
 
 pub read_spec : {M : Type 1} → statement M
 read_spec =

@@ -25,68 +25,59 @@ long : (S : tie.Start) → length (map paper_span S.args.head) ≡ 27
 long S = let h : length S.args.head ≡ 27 = search rules in spans_long S.args.head ∙ h
 
 -- the head's lines are those of its elements
-head-is : (H : tie.After-head-numbers) → let S = H.before.before.before in head_lines (head_with S.args.patch (shown_all S.args.text.now (map paper_span S.args.head))) ≡ (mp_lines S.args.patch S.args.text.now H.head-numbers.result) ++ ((lines_of (bytes "MP.P.") 6 8 S.args.text.now 6 H.head-numbers.result) ++ ((lines_of (bytes "MP.A.") 14 10 S.args.text.now 22 H.head-numbers.result) ++ (lines_of (bytes "MP.O.") 24 7 S.args.text.now 42 H.head-numbers.result)))
-head-is H = let S = H.before.before.before in head_by_lem S.args.patch S.args.text.now (map paper_span S.args.head) H.head-numbers.result (long S) H.head-numbers.ensures
+head-is : (H : tie.After-head_numbers-numbers) → let S = H.before.before.before in head_lines (head_with S.args.patch (shown_all S.args.text.now (map paper_span S.args.head))) ≡ (mp_lines S.args.patch S.args.text.now H.head_numbers-numbers.result) ++ ((lines_of (bytes "MP.P.") 6 8 S.args.text.now 6 H.head_numbers-numbers.result) ++ ((lines_of (bytes "MP.A.") 14 10 S.args.text.now 22 H.head_numbers-numbers.result) ++ (lines_of (bytes "MP.O.") 24 7 S.args.text.now 42 H.head_numbers-numbers.result)))
+head-is H = let S = H.before.before.before in head_by_lem S.args.patch S.args.text.now (map paper_span S.args.head) H.head_numbers-numbers.result (long S) H.head_numbers-numbers.ensures
 
 -- the spans of an element lie within the text
-inside-at : (H : tie.After-head-numbers) (j n : ℕ) → j + n ≤ 27 → let S = H.before.before.before in every (within (length S.args.text.now)) (spans_at n (2 + 2 * j) H.head-numbers.result) ≡ true
+inside-at : (H : tie.After-head_numbers-numbers) (j n : ℕ) → j + n ≤ 27 → let S = H.before.before.before in every (within (length S.args.text.now)) (spans_at n (2 + 2 * j) H.head_numbers-numbers.result) ≡ true
 inside-at H j n h =
     let S = H.before.before.before in
-    rw H.head-numbers.ensures (part_every (within (length S.args.text.now)) (map paper_span S.args.head) j n (omega (arith, long S)) S.requires.0)
+    rw H.head_numbers-numbers.ensures (part_every (within (length S.args.text.now)) (map paper_span S.args.head) j n (omega (arith, long S)) S.requires.0)
 
 -- all lines fit
-fit : (H : tie.After-head-numbers) → let S = H.before.before.before in Fits S.args.out.now S.args.at (print ((mp_lines S.args.patch S.args.text.now H.head-numbers.result) ++ ((lines_of (bytes "MP.P.") 6 8 S.args.text.now 6 H.head-numbers.result) ++ ((lines_of (bytes "MP.A.") 14 10 S.args.text.now 22 H.head-numbers.result) ++ (lines_of (bytes "MP.O.") 24 7 S.args.text.now 42 H.head-numbers.result)))))
+fit : (H : tie.After-head_numbers-numbers) → let S = H.before.before.before in Fits S.args.out.now S.args.at (print ((mp_lines S.args.patch S.args.text.now H.head_numbers-numbers.result) ++ ((lines_of (bytes "MP.P.") 6 8 S.args.text.now 6 H.head_numbers-numbers.result) ++ ((lines_of (bytes "MP.A.") 14 10 S.args.text.now 22 H.head_numbers-numbers.result) ++ (lines_of (bytes "MP.O.") 24 7 S.args.text.now 42 H.head_numbers-numbers.result)))))
 fit H = fits_as (ap print (head-is H)) (record { inside = H.before.before.before.requires.1 })
 
 -- those of P, A and O fit behind those of MP
-person-fits : (c : tie.After-mp-lines) → let H = c.before.before.before in let S = H.before.before.before in Fits c.mp-lines.new.0 c.mp-lines.result (print ((lines_of (bytes "MP.P.") 6 8 S.args.text.now 6 H.head-numbers.result) ++ ((lines_of (bytes "MP.A.") 14 10 S.args.text.now 22 H.head-numbers.result) ++ (lines_of (bytes "MP.O.") 24 7 S.args.text.now 42 H.head-numbers.result))))
-person-fits c = let H = c.before.before.before in let S = H.before.before.before in other_lines (mp_lines S.args.patch S.args.text.now H.head-numbers.result) ((lines_of (bytes "MP.P.") 6 8 S.args.text.now 6 H.head-numbers.result) ++ ((lines_of (bytes "MP.A.") 14 10 S.args.text.now 22 H.head-numbers.result) ++ (lines_of (bytes "MP.O.") 24 7 S.args.text.now 42 H.head-numbers.result))) (fit H) c.mp-lines.ensures
+person-fits : (c : tie.After-mp_lines-a) → let H = c.before.before.before in let S = H.before.before.before in Fits c.mp_lines-a.new.0 c.mp_lines-a.result (print ((lines_of (bytes "MP.P.") 6 8 S.args.text.now 6 H.head_numbers-numbers.result) ++ ((lines_of (bytes "MP.A.") 14 10 S.args.text.now 22 H.head_numbers-numbers.result) ++ (lines_of (bytes "MP.O.") 24 7 S.args.text.now 42 H.head_numbers-numbers.result))))
+person-fits c = let H = c.before.before.before in let S = H.before.before.before in other_lines (mp_lines S.args.patch S.args.text.now H.head_numbers-numbers.result) ((lines_of (bytes "MP.P.") 6 8 S.args.text.now 6 H.head_numbers-numbers.result) ++ ((lines_of (bytes "MP.A.") 14 10 S.args.text.now 22 H.head_numbers-numbers.result) ++ (lines_of (bytes "MP.O.") 24 7 S.args.text.now 42 H.head_numbers-numbers.result))) (fit H) c.mp_lines-a.ensures
 
 -- those of A and O behind those of P
-author-fits : (c : tie.After-fields) → let H = c.before.before.before.before.before.before.before.before.before in let S = H.before.before.before in Fits c.fields.new.0 c.fields.result (print ((lines_of (bytes "MP.A.") 14 10 S.args.text.now 22 H.head-numbers.result) ++ (lines_of (bytes "MP.O.") 24 7 S.args.text.now 42 H.head-numbers.result)))
-author-fits c = let H = c.before.before.before.before.before.before.before.before.before in let S = H.before.before.before in other_lines (lines_of (bytes "MP.P.") 6 8 S.args.text.now 6 H.head-numbers.result) ((lines_of (bytes "MP.A.") 14 10 S.args.text.now 22 H.head-numbers.result) ++ (lines_of (bytes "MP.O.") 24 7 S.args.text.now 42 H.head-numbers.result)) (person-fits c.before.before.before.before.before.before) c.fields.ensures
+author-fits : (c : tie.After-fields-b) → let H = c.before.before.before.before.before.before.before.before.before in let S = H.before.before.before in Fits c.fields-b.new.0 c.fields-b.result (print ((lines_of (bytes "MP.A.") 14 10 S.args.text.now 22 H.head-numbers.result) ++ (lines_of (bytes "MP.O.") 24 7 S.args.text.now 42 H.head-numbers.result)))
+author-fits c = let H = c.before.before.before.before.before.before.before.before.before in let S = H.before.before.before in other_lines (lines_of (bytes "MP.P.") 6 8 S.args.text.now 6 H.head-numbers.result) ((lines_of (bytes "MP.A.") 14 10 S.args.text.now 22 H.head-numbers.result) ++ (lines_of (bytes "MP.O.") 24 7 S.args.text.now 42 H.head-numbers.result)) (person-fits c.before.before.before.before.before.before) c.fields-b.ensures
 
 -- those of O behind those of A
-measures-fit : (c : tie.After-fields2) → let H = c.before.before.before.before.before.before.before.before.before.before.before.before.before.before.before in let S = H.before.before.before in Fits c.fields2.new.0 c.fields2.result (print (lines_of (bytes "MP.O.") 24 7 S.args.text.now 42 H.head-numbers.result))
-measures-fit c = let H = c.before.before.before.before.before.before.before.before.before.before.before.before.before.before.before in let S = H.before.before.before in other_lines (lines_of (bytes "MP.A.") 14 10 S.args.text.now 22 H.head-numbers.result) (lines_of (bytes "MP.O.") 24 7 S.args.text.now 42 H.head-numbers.result) (author-fits c.before.before.before.before.before.before) c.fields2.ensures
+measures-fit : (c : tie.After-fields-c) → let H = c.before.before.before.before.before.before.before.before.before.before.before.before.before.before.before in let S = H.before.before.before in Fits c.fields-c.new.0 c.fields-c.result (print (lines_of (bytes "MP.O.") 24 7 S.args.text.now 42 H.head-numbers.result))
+measures-fit c = let H = c.before.before.before.before.before.before.before.before.before.before.before.before.before.before.before in let S = H.before.before.before in other_lines (lines_of (bytes "MP.A.") 14 10 S.args.text.now 22 H.head-numbers.result) (lines_of (bytes "MP.O.") 24 7 S.args.text.now 42 H.head-numbers.result) (author-fits c.before.before.before.before.before.before) c.fields-c.ensures
 
-head-numbers-requires : tie.Need-head-numbers-requires
+head-numbers-requires : tie.Need-head_numbers-numbers-requires
 head-numbers-requires c κs = search rules
 
-slice-aggregate-mp-lines : tie.Need-slice-aggregate-mp-lines
+slice-aggregate-mp-lines : tie.Need-slice_bounds-mp_lines-end
 slice-aggregate-mp-lines c = search rules
 
-mp-lines-requires : tie.Need-mp-lines-requires
-mp-lines-requires c κs = let H = c.before.before in let S = H.before.before.before in (search rules, inside-at H 0 2 (omega arith), (first_lines (mp_lines S.args.patch S.args.text.now H.head-numbers.result) ((lines_of (bytes "MP.P.") 6 8 S.args.text.now 6 H.head-numbers.result) ++ ((lines_of (bytes "MP.A.") 14 10 S.args.text.now 22 H.head-numbers.result) ++ (lines_of (bytes "MP.O.") 24 7 S.args.text.now 42 H.head-numbers.result))) (fit H)).inside)
+mp-lines-requires : tie.Need-mp_lines-a-requires
+mp-lines-requires c κs = let H = c.before.before in let S = H.before.before.before in (search rules, inside-at H 0 2 (omega arith), (first_lines (mp_lines S.args.patch S.args.text.now H.head_numbers-numbers.result) ((lines_of (bytes "MP.P.") 6 8 S.args.text.now 6 H.head_numbers-numbers.result) ++ ((lines_of (bytes "MP.A.") 14 10 S.args.text.now 22 H.head_numbers-numbers.result) ++ (lines_of (bytes "MP.O.") 24 7 S.args.text.now 42 H.head_numbers-numbers.result))) (fit H)).inside)
 
-slice-aggregate-fields : tie.Need-slice-aggregate-fields
+slice-aggregate-fields : tie.Need-slice_bounds-fields-end-2
 slice-aggregate-fields c = search rules
 
-slice-aggregate-fields-2 : tie.Need-slice-aggregate-fields-2
+slice-aggregate-fields-2 : tie.Need-slice_bounds-fields-end-4
 slice-aggregate-fields-2 c = search rules
 
-fields-requires : tie.Need-fields-requires
+fields-requires : tie.Need-fields-b-requires
 fields-requires c κs = let T = c.before.before.before.before.before in let H = T.before.before.before in let S = H.before.before.before in (search rules, search rules, inside-at H 2 8 (omega arith), (first_lines (lines_of (bytes "MP.P.") 6 8 S.args.text.now 6 H.head-numbers.result) ((lines_of (bytes "MP.A.") 14 10 S.args.text.now 22 H.head-numbers.result) ++ (lines_of (bytes "MP.O.") 24 7 S.args.text.now 42 H.head-numbers.result)) (person-fits T)).inside)
 
-slice-aggregate-fields-3 : tie.Need-slice-aggregate-fields-3
+slice-aggregate-fields-3 : tie.Need-slice_bounds-fields-end-6
 slice-aggregate-fields-3 c = search rules
 
-slice-aggregate-fields-4 : tie.Need-slice-aggregate-fields-4
-slice-aggregate-fields-4 c = search rules
-
-fields-requires-2 : tie.Need-fields-requires-2
+fields-requires-2 : tie.Need-fields-c-requires
 fields-requires-2 c κs = let T = c.before.before.before.before.before in let H = T.before.before.before.before.before.before.before.before.before in let S = H.before.before.before in (search rules, search rules, inside-at H 10 10 (omega arith), (first_lines (lines_of (bytes "MP.A.") 14 10 S.args.text.now 22 H.head-numbers.result) (lines_of (bytes "MP.O.") 24 7 S.args.text.now 42 H.head-numbers.result) (author-fits T)).inside)
 
-slice-aggregate-fields-5 : tie.Need-slice-aggregate-fields-5
-slice-aggregate-fields-5 c = search rules
-
-slice-aggregate-fields-6 : tie.Need-slice-aggregate-fields-6
-slice-aggregate-fields-6 c = search rules
-
-fields-requires-3 : tie.Need-fields-requires-3
+fields-requires-3 : tie.Need-fields-requires
 fields-requires-3 c κs = let T = c.before.before.before.before.before in let H = T.before.before.before.before.before.before.before.before.before.before.before.before.before.before.before in (search rules, search rules, inside-at H 20 7 (omega arith), (measures-fit T).inside)
 
-same_length : tie.Need-same-length
+same_length : tie.Need-shape_of-out
 same_length c = search rules
 
 returns : tie.Need-returns
@@ -98,10 +89,10 @@ returns c =
     let H = T.before.before.before in
     let S = H.before.before.before in
     wrote_as (ap print (head-is H)) (lines_written (mp_lines S.args.patch S.args.text.now H.head-numbers.result) ((lines_of (bytes "MP.P.") 6 8 S.args.text.now 6 H.head-numbers.result) ++ ((lines_of (bytes "MP.A.") 14 10 S.args.text.now 22 H.head-numbers.result) ++ (lines_of (bytes "MP.O.") 24 7 S.args.text.now 42 H.head-numbers.result))) (fit H) T.mp-lines.ensures
-    (lines_written (lines_of (bytes "MP.P.") 6 8 S.args.text.now 6 H.head-numbers.result) ((lines_of (bytes "MP.A.") 14 10 S.args.text.now 22 H.head-numbers.result) ++ (lines_of (bytes "MP.O.") 24 7 S.args.text.now 42 H.head-numbers.result)) (person-fits T) Z.fields.ensures (lines_written (lines_of (bytes "MP.A.") 14 10 S.args.text.now 22 H.head-numbers.result) (lines_of (bytes "MP.O.") 24 7 S.args.text.now 42 H.head-numbers.result) (author-fits Z) Y.fields2.ensures X.fields3.ensures)))
+    (lines_written (lines_of (bytes "MP.P.") 6 8 S.args.text.now 6 H.head-numbers.result) ((lines_of (bytes "MP.A.") 14 10 S.args.text.now 22 H.head-numbers.result) ++ (lines_of (bytes "MP.O.") 24 7 S.args.text.now 42 H.head-numbers.result)) (person-fits T) Z.fields.ensures (lines_written (lines_of (bytes "MP.A.") 14 10 S.args.text.now 22 H.head-numbers.result) (lines_of (bytes "MP.O.") 24 7 S.args.text.now 42 H.head-numbers.result) (author-fits Z) Y.fields2.ensures X.fields.ensures)))
 
-pub head-lines-spec : {M : Type 1} → statement M
-head-lines-spec =
+pub head_lines_spec : {M : Type 1} → statement M
+head_lines_spec =
     tie.close
     (tie.spec
     head-numbers-requires
@@ -111,10 +102,7 @@ head-lines-spec =
     slice-aggregate-fields-2
     fields-requires
     slice-aggregate-fields-3
-    slice-aggregate-fields-4
     fields-requires-2
-    slice-aggregate-fields-5
-    slice-aggregate-fields-6
     fields-requires-3
     same_length
     returns)

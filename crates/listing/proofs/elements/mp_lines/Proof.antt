@@ -17,35 +17,23 @@ fit : (S : tie.Start) → Fits S.args.out.now S.args.at (print (mp_lines S.args.
 fit S = record { inside = S.requires.2 }
 
 -- the patch and what is behind it fit
-patch-fits : (c : tie.After-text-line) → let S = c.before.before.before.before.before.before.before in Fits c.text-line.new.0 c.text-line.result (print ((given (bytes "MP.p") (decimal S.args.patch)) ++ (lines_of (bytes "MP.") 2 2 S.args.text.now 2 S.args.numbers.now)))
-patch-fits c = let S = c.before.before.before.before.before.before.before in other_lines (line (bytes "MP.v") edition ∷ []) ((given (bytes "MP.p") (decimal S.args.patch)) ++ (lines_of (bytes "MP.") 2 2 S.args.text.now 2 S.args.numbers.now)) (fit S) c.text-line.ensures
+patch-fits : (c : tie.After-text_line-a) → let S = c.before.before.before.before.before.before.before in Fits c.text_line-a.new.0 c.text_line-a.result (print ((given (bytes "MP.p") (decimal S.args.patch)) ++ (lines_of (bytes "MP.") 2 2 S.args.text.now 2 S.args.numbers.now)))
+patch-fits c = let S = c.before.before.before.before.before.before.before in other_lines (line (bytes "MP.v") edition ∷ []) ((given (bytes "MP.p") (decimal S.args.patch)) ++ (lines_of (bytes "MP.") 2 2 S.args.text.now 2 S.args.numbers.now)) (fit S) c.text_line-a.ensures
 
 -- U and l fit
-rest-fits : (c : tie.After-number-line) → let S = c.before.before.before.before.before.before.before.before.before.before.before.before in Fits c.number-line.new.0 c.number-line.result (print (lines_of (bytes "MP.") 2 2 S.args.text.now 2 S.args.numbers.now))
-rest-fits c = let S = c.before.before.before.before.before.before.before.before.before.before.before.before in other_lines (given (bytes "MP.p") (decimal S.args.patch)) (lines_of (bytes "MP.") 2 2 S.args.text.now 2 S.args.numbers.now) (patch-fits c.before.before.before.before.before) c.number-line.ensures
+rest-fits : (c : tie.After-number_line-b) → let S = c.before.before.before.before.before.before.before.before.before.before.before.before in Fits c.number_line-b.new.0 c.number_line-b.result (print (lines_of (bytes "MP.") 2 2 S.args.text.now 2 S.args.numbers.now))
+rest-fits c = let S = c.before.before.before.before.before.before.before.before.before.before.before.before in other_lines (given (bytes "MP.p") (decimal S.args.patch)) (lines_of (bytes "MP.") 2 2 S.args.text.now 2 S.args.numbers.now) (patch-fits c.before.before.before.before.before) c.number_line-b.ensures
 
-slice-aggregate-text-line : tie.Need-slice-aggregate-text-line
-slice-aggregate-text-line c = search rules
-
-slice-aggregate-text-line-2 : tie.Need-slice-aggregate-text-line-2
-slice-aggregate-text-line-2 c = search rules
-
-text-line-requires : tie.Need-text-line-requires
+text-line-requires : tie.Need-text_line-a-requires
 text-line-requires c κs = search rules
 
-slice-aggregate-number-line : tie.Need-slice-aggregate-number-line
-slice-aggregate-number-line c = search rules
-
-number-line-requires : tie.Need-number-line-requires
+number-line-requires : tie.Need-number_line-b-requires
 number-line-requires c κs = let T = c.before.before.before.before in let S = T.before.before.before.before.before.before.before in (first_lines (given (bytes "MP.p") (decimal S.args.patch)) (lines_of (bytes "MP.") 2 2 S.args.text.now 2 S.args.numbers.now) (patch-fits T)).inside
-
-slice-aggregate-fields : tie.Need-slice-aggregate-fields
-slice-aggregate-fields c = search rules
 
 fields-requires : tie.Need-fields-requires
 fields-requires c κs = let N = c.before.before.before.before in let S = N.before.before.before.before.before.before.before.before.before.before.before.before in (search rules, search rules, S.requires.1, (rest-fits N).inside)
 
-same_length : tie.Need-same-length
+same_length : tie.Need-shape_of-out
 same_length c = search rules
 
 returns : tie.Need-returns
@@ -56,16 +44,12 @@ returns c =
     let S = T.before.before.before.before.before.before.before in
     lines_written (line (bytes "MP.v") edition ∷ []) ((given (bytes "MP.p") (decimal S.args.patch)) ++ (lines_of (bytes "MP.") 2 2 S.args.text.now 2 S.args.numbers.now)) (fit S) T.text-line.ensures (lines_written (given (bytes "MP.p") (decimal S.args.patch)) (lines_of (bytes "MP.") 2 2 S.args.text.now 2 S.args.numbers.now) (patch-fits T) N.number-line.ensures F.fields.ensures)
 
-pub mp-lines-spec : {M : Type 1} → statement M
-mp-lines-spec =
+pub mp_lines_spec : {M : Type 1} → statement M
+mp_lines_spec =
     tie.close
     (tie.spec
-    slice-aggregate-text-line
-    slice-aggregate-text-line-2
     text-line-requires
-    slice-aggregate-number-line
     number-line-requires
-    slice-aggregate-fields
     fields-requires
     same_length
     returns)

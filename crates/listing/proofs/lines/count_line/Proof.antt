@@ -17,45 +17,45 @@ fit : (S : tie.Start) → Fits S.args.out.now S.args.at (print (line S.args.key.
 fit S = record { inside = S.requires }
 
 -- the key is written
-key_in : (c : tie.After-lay) → let S = c.before.before.before.before in Wrote S.args.out.now c.lay.new.0 S.args.at c.lay.result S.args.key.now
-key_in c = wrote c.lay.ensures
+key_in : (c : tie.After-lay-a) → let S = c.before.before.before.before in Wrote S.args.out.now c.lay-a.new.0 S.args.at c.lay-a.result S.args.key.now
+key_in c = wrote c.lay-a.ensures
 
 -- the digits are written
-value_in : (c : tie.After-numeral) → let L = c.before.before.before.before in let S = L.before.before.before.before in
-    Wrote (set L.lay.new.0 L.lay.result 61) c.numeral.new.1.0 (L.lay.result + 1) c.numeral.result (numeral S.args.n)
-value_in c = c.numeral.ensures
+value_in : (c : tie.After-numeral-b) → let L = c.before.before.before.before in let S = L.before.before.before.before in
+    Wrote (set L.lay-a.new.0 L.lay-a.result 61) c.numeral-b.new.1.0 (L.lay-a.result + 1) c.numeral-b.result (numeral S.args.n)
+value_in c = c.numeral-b.ensures
 
 -- the line is written
-line-in : (c : tie.After-numeral) → let S = c.before.before.before.before.before.before.before.before in
-    Wrote S.args.out.now (set c.numeral.new.1.0 c.numeral.result 10) S.args.at (c.numeral.result + 1) (print (line S.args.key.now (numeral S.args.n) ∷ []))
+line-in : (c : tie.After-numeral-b) → let S = c.before.before.before.before.before.before.before.before in
+    Wrote S.args.out.now (set c.numeral-b.new.1.0 c.numeral-b.result 10) S.args.at (c.numeral-b.result + 1) (print (line S.args.key.now (numeral S.args.n) ∷ []))
 line-in c = let L = c.before.before.before.before in let S = L.before.before.before.before in line_written (numeral S.args.n) (fit S) (key_in L) (value_in c)
 
-lay-requires : tie.Need-lay-requires
+lay-requires : tie.Need-lay-a-requires
 lay-requires c κs = let S = c.before.before.before in (first_fits S.args.key.now (61 ∷ (numeral S.args.n ++ 10 ∷ [])) (fit S)).inside
 
-slice-write-out : tie.Need-slice-write-out
+slice-write-out : tie.Need-bounds-out-a
 slice-write-out c = let L = c.before.before in let S = L.before.before.before.before in equals_fits (numeral S.args.n) (fit S) (key_in L)
 
-add-numeral : tie.Need-overflow-add-numeral
+add-numeral : tie.Need-overflow_add-a
 add-numeral c = search rules
 
-numeral-requires : tie.Need-numeral-requires
+numeral-requires : tie.Need-numeral-b-requires
 numeral-requires c κs = let L = c.before.before.before in let S = L.before.before.before.before in (value_fits (numeral S.args.n) (fit S) (key_in L)).inside
 
-slice-write-out-2 : tie.Need-slice-write-out-2
+slice-write-out-2 : tie.Need-bounds-out-b
 slice-write-out-2 c = let D = c.before.before in let L = D.before.before.before.before in let S = L.before.before.before.before in end_fits (numeral S.args.n) (fit S) (key_in L) (value_in D)
 
-add-result : tie.Need-overflow-add-result
+add-result : tie.Need-overflow_add-result
 add-result c = let D = c.before.before in omega (arith, (line-in D).behind, (fit D.before.before.before.before.before.before.before.before).inside)
 
-same_length : tie.Need-same-length
+same_length : tie.Need-shape_of-out
 same_length c = let D = c.before.before in room_kept (fit D.before.before.before.before.before.before.before.before) (line-in D)
 
 returns : tie.Need-returns
 returns c = line-in c.before.before
 
-pub count-line-spec : {M : Type 1} → statement M
-count-line-spec =
+pub count_line_spec : {M : Type 1} → statement M
+count_line_spec =
     tie.close
     (tie.spec
     lay-requires

@@ -21,63 +21,63 @@ key_fits : (S : tie.Start) → Fits S.args.out.now S.args.at (S.args.path.now ++
 key_fits S = first_fits (S.args.path.now ++ name_of S.args.letters) (61 ∷ (S.args.value.now ++ 10 ∷ [])) (fit S)
 
 -- the path is written
-path-in : (c : tie.After-lay) → let S = c.before.before.before.before.before in Wrote S.args.out.now c.lay.new.0 S.args.at c.lay.result S.args.path.now
-path-in c = wrote c.lay.ensures
+path-in : (c : tie.After-lay-name) → let S = c.before.before.before.before.before in Wrote S.args.out.now c.lay-name.new.0 S.args.at c.lay-name.result S.args.path.now
+path-in c = wrote c.lay-name.ensures
 
 -- the key is written
-key_in : (c : tie.After-lay-name) → let S = c.before.before.before.before.before.before.before.before.before in
-    Wrote S.args.out.now c.lay-name.new.1.0 S.args.at c.lay-name.result (S.args.path.now ++ name_of S.args.letters)
-key_in c = let L = c.before.before.before.before in both_written (key_fits L.before.before.before.before.before) (path-in L) (wrote c.lay-name.ensures)
+key_in : (c : tie.After-lay_name-sign) → let S = c.before.before.before.before.before.before.before.before.before in
+    Wrote S.args.out.now c.lay_name-sign.new.1.0 S.args.at c.lay_name-sign.result (S.args.path.now ++ name_of S.args.letters)
+key_in c = let L = c.before.before.before.before in both_written (key_fits L.before.before.before.before.before) (path-in L) (wrote c.lay_name-sign.ensures)
 
 -- the value is written
-value_in : (c : tie.After-lay2) → let N = c.before.before.before.before in let S = N.before.before.before.before.before.before.before.before.before in
-    Wrote (set N.lay-name.new.1.0 N.lay-name.result 61) c.lay2.new.0 (N.lay-name.result + 1) c.lay2.result S.args.value.now
-value_in c = wrote c.lay2.ensures
+value_in : (c : tie.After-lay-end) → let N = c.before.before.before.before in let S = N.before.before.before.before.before.before.before.before.before in
+    Wrote (set N.lay_name-sign.new.1.0 N.lay_name-sign.result 61) c.lay-end.new.0 (N.lay_name-sign.result + 1) c.lay-end.result S.args.value.now
+value_in c = wrote c.lay-end.ensures
 
 -- the line's end fits behind it
-end-in : (c : tie.After-lay2) → c.lay2.result < length c.lay2.new.0
+end-in : (c : tie.After-lay-end) → c.lay-end.result < length c.lay-end.new.0
 end-in c =
     let N = c.before.before.before.before in
     let S = N.before.before.before.before.before.before.before.before.before in
     end_fits S.args.value.now (fit S) (key_in N) (value_in c)
 
 -- the line is written
-line-in : (c : tie.After-lay2) → let S = c.before.before.before.before.before.before.before.before.before.before.before.before.before in
-    Wrote S.args.out.now (set c.lay2.new.0 c.lay2.result 10) S.args.at (c.lay2.result + 1) (print (line (S.args.path.now ++ name_of S.args.letters) S.args.value.now ∷ []))
+line-in : (c : tie.After-lay-end) → let S = c.before.before.before.before.before.before.before.before.before.before.before.before.before in
+    Wrote S.args.out.now (set c.lay-end.new.0 c.lay-end.result 10) S.args.at (c.lay-end.result + 1) (print (line (S.args.path.now ++ name_of S.args.letters) S.args.value.now ∷ []))
 line-in c =
     let N = c.before.before.before.before in
     let S = N.before.before.before.before.before.before.before.before.before in
     line_written S.args.value.now (fit S) (key_in N) (value_in c)
 
-lay-requires : tie.Need-lay-requires
+lay-requires : tie.Need-lay-name-requires
 lay-requires c κs = let S = c.before.before.before.before in (first_fits S.args.path.now (name_of S.args.letters) (key_fits S)).inside
 
-lay-name-requires : tie.Need-lay-name-requires
+lay-name-requires : tie.Need-lay_name-sign-requires
 lay-name-requires c κs = let L = c.before.before.before in let S = L.before.before.before.before.before in (second_fits (name_of S.args.letters) (key_fits S) (path-in L)).inside
 
-slice-write-out : tie.Need-slice-write-out
+slice-write-out : tie.Need-bounds-out-sign
 slice-write-out c = let N = c.before.before in let S = N.before.before.before.before.before.before.before.before.before in equals_fits S.args.value.now (fit S) (key_in N)
 
-add-lay : tie.Need-overflow-add-lay
+add-lay : tie.Need-overflow_add-sign
 add-lay c = let N = c.before.before.before in let S = N.before.before.before.before.before.before.before.before.before in omega (arith, (key_in N).behind, (fit S).inside, (key_fits S).inside, length-append (S.args.path.now ++ name_of S.args.letters) (61 ∷ (S.args.value.now ++ 10 ∷ [])))
 
-lay-requires-2 : tie.Need-lay-requires-2
+lay-requires-2 : tie.Need-lay-end-requires
 lay-requires-2 c κs = let N = c.before.before.before in let S = N.before.before.before.before.before.before.before.before.before in (value_fits S.args.value.now (fit S) (key_in N)).inside
 
-slice-write-out-2 : tie.Need-slice-write-out-2
+slice-write-out-2 : tie.Need-bounds-out-end
 slice-write-out-2 c = end-in c.before.before
 
-add-result : tie.Need-overflow-add-result
+add-result : tie.Need-overflow_add-result
 add-result c = let D = c.before.before in omega (arith, (line-in D).behind, (fit D.before.before.before.before.before.before.before.before.before.before.before.before.before).inside)
 
-same_length : tie.Need-same-length
+same_length : tie.Need-shape_of-out
 same_length c = let D = c.before.before in room_kept (fit D.before.before.before.before.before.before.before.before.before.before.before.before.before) (line-in D)
 
 returns : tie.Need-returns
 returns c = line-in c.before.before
 
-pub letters-line-spec : {M : Type 1} → statement M
-letters-line-spec =
+pub letters_line_spec : {M : Type 1} → statement M
+letters_line_spec =
     tie.close
     (tie.spec
     lay-requires

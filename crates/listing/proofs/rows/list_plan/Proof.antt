@@ -15,26 +15,23 @@ fit : (S : tie.Start) → Fits S.args.out.now 0 (print ((head_part S.args.text.n
 fit S = fits_as (listing_is S.args.text.now S.args.plan S.args.rows.now) (fits_whole S.args.out.now _ S.requires.3)
 
 -- those of the rows and of their count fit behind those of the head
-rows_fit : (c : tie.After-head-lines) → let S = c.before.before.before.before.before.before in Fits c.head-lines.new.0 c.head-lines.result (print ((rows_part S.args.text.now S.args.plan S.args.rows.now) ++ (count_part S.args.plan)))
-rows_fit c = let S = c.before.before.before.before.before.before in other_lines (head_part S.args.text.now S.args.plan) ((rows_part S.args.text.now S.args.plan S.args.rows.now) ++ (count_part S.args.plan)) (fit S) c.head-lines.ensures
+rows_fit : (c : tie.After-head_lines-a) → let S = c.before.before.before.before.before.before in Fits c.head_lines-a.new.0 c.head_lines-a.result (print ((rows_part S.args.text.now S.args.plan S.args.rows.now) ++ (count_part S.args.plan)))
+rows_fit c = let S = c.before.before.before.before.before.before in other_lines (head_part S.args.text.now S.args.plan) ((rows_part S.args.text.now S.args.plan S.args.rows.now) ++ (count_part S.args.plan)) (fit S) c.head_lines-a.ensures
 
-head-lines-requires : tie.Need-head-lines-requires
+head-lines-requires : tie.Need-head_lines-a-requires
 unfolding head_in_text
 head-lines-requires c κs = let S = c.before.before.before.before.before in (S.requires.1, (first_lines (head_part S.args.text.now S.args.plan) ((rows_part S.args.text.now S.args.plan S.args.rows.now) ++ (count_part S.args.plan)) (fit S)).inside)
 
-cast-rows-lines : tie.Need-overflow-cast-rows-lines
+cast-rows-lines : tie.Need-overflow_cast-n
 cast-rows-lines c = search rules
 
-rows-lines-requires : tie.Need-rows-lines-requires
+rows-lines-requires : tie.Need-rows_lines-b-requires
 rows-lines-requires c κs = let T = c.before.before.before in let S = T.before.before.before.before.before.before in (S.requires.0, S.requires.2, (first_lines (rows_part S.args.text.now S.args.plan S.args.rows.now) (count_part S.args.plan) (rows_fit T)).inside)
 
-slice-aggregate-count-line : tie.Need-slice-aggregate-count-line
-slice-aggregate-count-line c = search rules
-
-count-line-requires : tie.Need-count-line-requires
+count-line-requires : tie.Need-count_line-requires
 count-line-requires c κs = let R = c.before.before.before.before in let T = R.before.before.before.before in let S = T.before.before.before.before.before.before in (other_lines (rows_part S.args.text.now S.args.plan S.args.rows.now) (count_part S.args.plan) (rows_fit T) R.rows-lines.ensures).inside
 
-same_length : tie.Need-same-length
+same_length : tie.Need-shape_of-out
 same_length c = search rules
 
 returns : tie.Need-returns
@@ -44,16 +41,15 @@ returns c =
     let T = R.before.before.before.before in
     let S = T.before.before.before.before.before.before in
     written_whole (wrote_as (listing_is S.args.text.now S.args.plan S.args.rows.now)
-    (lines_written (head_part S.args.text.now S.args.plan) ((rows_part S.args.text.now S.args.plan S.args.rows.now) ++ (count_part S.args.plan)) (fit S) T.head-lines.ensures (lines_written (rows_part S.args.text.now S.args.plan S.args.rows.now) (count_part S.args.plan) (rows_fit T) R.rows-lines.ensures N.count-line.ensures)))
+    (lines_written (head_part S.args.text.now S.args.plan) ((rows_part S.args.text.now S.args.plan S.args.rows.now) ++ (count_part S.args.plan)) (fit S) T.head-lines.ensures (lines_written (rows_part S.args.text.now S.args.plan S.args.rows.now) (count_part S.args.plan) (rows_fit T) R.rows-lines.ensures N.count_line.ensures)))
 
-pub list-plan-spec : {M : Type 1} → statement M
-list-plan-spec =
+pub list_plan_spec : {M : Type 1} → statement M
+list_plan_spec =
     tie.close
     (tie.spec
     head-lines-requires
     cast-rows-lines
     rows-lines-requires
-    slice-aggregate-count-line
     count-line-requires
     same_length
     returns)

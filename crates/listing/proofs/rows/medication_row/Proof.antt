@@ -22,58 +22,46 @@ fit : (S : tie.Start) → Fits S.args.out.now S.args.at (print ((line (bytes "ro
 fit S = record { inside = S.requires.2 }
 
 -- the package number and what is behind it fit behind the mark
-package-fits : (c : tie.After-text-line) → let S = c.before.before.before.before.before.before.before in Fits c.text-line.new.0 c.text-line.result (print ((given (bytes "MP.S.M.p") (decimal (get_or (record_at S.args.rows.now S.args.i) 1 0))) ++ ((lines_of (path M) 34 13 S.args.text.now (span_place S.args.i 0) S.args.rows.now) ++ (substance_lines S.args.text.now S.args.rows.now S.args.i))))
-package-fits c = let S = c.before.before.before.before.before.before.before in other_lines (line (bytes "row") (bytes "M") ∷ []) ((given (bytes "MP.S.M.p") (decimal (get_or (record_at S.args.rows.now S.args.i) 1 0))) ++ ((lines_of (path M) 34 13 S.args.text.now (span_place S.args.i 0) S.args.rows.now) ++ (substance_lines S.args.text.now S.args.rows.now S.args.i))) (fit S) c.text-line.ensures
+package-fits : (c : tie.After-text_line-a) → let S = c.before.before.before.before.before.before.before in Fits c.text_line-a.new.0 c.text_line-a.result (print ((given (bytes "MP.S.M.p") (decimal (get_or (record_at S.args.rows.now S.args.i) 1 0))) ++ ((lines_of (path M) 34 13 S.args.text.now (span_place S.args.i 0) S.args.rows.now) ++ (substance_lines S.args.text.now S.args.rows.now S.args.i))))
+package-fits c = let S = c.before.before.before.before.before.before.before in other_lines (line (bytes "row") (bytes "M") ∷ []) ((given (bytes "MP.S.M.p") (decimal (get_or (record_at S.args.rows.now S.args.i) 1 0))) ++ ((lines_of (path M) 34 13 S.args.text.now (span_place S.args.i 0) S.args.rows.now) ++ (substance_lines S.args.text.now S.args.rows.now S.args.i))) (fit S) c.text_line-a.ensures
 
 -- the package number is written
-package-in : (c : tie.After-number-line) → let T = c.before.before.before.before.before.before in let S = T.before.before.before.before.before.before.before in Wrote T.text-line.new.0 c.number-line.new.0 T.text-line.result c.number-line.result (print (given (bytes "MP.S.M.p") (decimal (get_or (record_at S.args.rows.now S.args.i) 1 0))))
-package-in c = rw c.before.before.before.package-at.ensures at c.number-line.ensures
+package-in : (c : tie.After-number_line-b) → let T = c.before.before.before.before.before.before in let S = T.before.before.before.before.before.before.before in Wrote T.text-line.new.0 c.number_line-b.new.0 T.text-line.result c.number_line-b.result (print (given (bytes "MP.S.M.p") (decimal (get_or (record_at S.args.rows.now S.args.i) 1 0))))
+package-in c = rw c.before.before.before.package-at.ensures at c.number_line-b.ensures
 
 -- the fields and the substances fit behind it
-fields_fit : (c : tie.After-number-line) → let S = c.before.before.before.before.before.before.before.before.before.before.before.before.before in Fits c.number-line.new.0 c.number-line.result (print ((lines_of (path M) 34 13 S.args.text.now (span_place S.args.i 0) S.args.rows.now) ++ (substance_lines S.args.text.now S.args.rows.now S.args.i)))
+fields_fit : (c : tie.After-number_line-b) → let S = c.before.before.before.before.before.before.before.before.before.before.before.before.before in Fits c.number_line-b.new.0 c.number_line-b.result (print ((lines_of (path M) 34 13 S.args.text.now (span_place S.args.i 0) S.args.rows.now) ++ (substance_lines S.args.text.now S.args.rows.now S.args.i)))
 fields_fit c = let S = c.before.before.before.before.before.before.before.before.before.before.before.before.before in other_lines (given (bytes "MP.S.M.p") (decimal (get_or (record_at S.args.rows.now S.args.i) 1 0))) ((lines_of (path M) 34 13 S.args.text.now (span_place S.args.i 0) S.args.rows.now) ++ (substance_lines S.args.text.now S.args.rows.now S.args.i)) (package-fits c.before.before.before.before.before.before) (package-in c)
 
-slice-aggregate-text-line : tie.Need-slice-aggregate-text-line
-slice-aggregate-text-line c = search rules
-
-slice-aggregate-text-line-2 : tie.Need-slice-aggregate-text-line-2
-slice-aggregate-text-line-2 c = search rules
-
-text-line-requires : tie.Need-text-line-requires
+text-line-requires : tie.Need-text_line-a-requires
 text-line-requires c κs = search rules
 
-package-at-requires : tie.Need-package-at-requires
+package-at-requires : tie.Need-package_at-p-requires
 package-at-requires c κs = search rules
 
-slice-aggregate-number-line : tie.Need-slice-aggregate-number-line
-slice-aggregate-number-line c = search rules
-
-number-line-requires : tie.Need-number-line-requires
+number-line-requires : tie.Need-number_line-b-requires
 number-line-requires c κs = let T = c.before.before.before.before.before in let S = T.before.before.before.before.before.before.before in rw c.before.before.package-at.ensures (first_lines (given (bytes "MP.S.M.p") (decimal (get_or (record_at S.args.rows.now S.args.i) 1 0))) ((lines_of (path M) 34 13 S.args.text.now (span_place S.args.i 0) S.args.rows.now) ++ (substance_lines S.args.text.now S.args.rows.now S.args.i)) (package-fits T)).inside
 
-slice-aggregate-fields : tie.Need-slice-aggregate-fields
-slice-aggregate-fields c = search rules
-
-mul-fields : tie.Need-overflow-mul-fields
+mul-fields : tie.Need-overflow_mul-i
 mul-fields c = search rules
 
-add-fields : tie.Need-overflow-add-fields
+add-fields : tie.Need-overflow_add-i
 add-fields c = search rules
 
-fields-requires : tie.Need-fields-requires
+fields-requires : tie.Need-fields-c-requires
 fields-requires c κs =
     let N = c.before.before.before.before in
     let S = N.before.before.before.before.before.before.before.before.before.before.before.before.before in
     (search rules, omega (arith, S.requires.0), spans_inside S.args.text.now S.args.rows.now S.args.i 13 0 (omega arith) S.requires.1, (first_lines (lines_of (path M) 34 13 S.args.text.now (span_place S.args.i 0) S.args.rows.now) (substance_lines S.args.text.now S.args.rows.now S.args.i) (fields_fit N)).inside)
 
-substance-lines-requires : tie.Need-substance-lines-requires
+substance-lines-requires : tie.Need-substance_lines-requires
 substance-lines-requires c κs =
     let F = c.before.before.before in
     let N = F.before.before.before.before.before in
     let S = N.before.before.before.before.before.before.before.before.before.before.before.before.before in
-    (S.requires.0, S.requires.1, (other_lines (lines_of (path M) 34 13 S.args.text.now (span_place S.args.i 0) S.args.rows.now) (substance_lines S.args.text.now S.args.rows.now S.args.i) (fields_fit N) F.fields.ensures).inside)
+    (S.requires.0, S.requires.1, (other_lines (lines_of (path M) 34 13 S.args.text.now (span_place S.args.i 0) S.args.rows.now) (substance_lines S.args.text.now S.args.rows.now S.args.i) (fields_fit N) F.fields-c.ensures).inside)
 
-same_length : tie.Need-same-length
+same_length : tie.Need-shape_of-out
 same_length c = search rules
 
 returns : tie.Need-returns
@@ -84,19 +72,15 @@ returns c =
     let T = N.before.before.before.before.before.before in
     let S = T.before.before.before.before.before.before.before in
     lines_written (line (bytes "row") (bytes "M") ∷ []) ((given (bytes "MP.S.M.p") (decimal (get_or (record_at S.args.rows.now S.args.i) 1 0))) ++ ((lines_of (path M) 34 13 S.args.text.now (span_place S.args.i 0) S.args.rows.now) ++ (substance_lines S.args.text.now S.args.rows.now S.args.i))) (fit S) T.text-line.ensures
-    (lines_written (given (bytes "MP.S.M.p") (decimal (get_or (record_at S.args.rows.now S.args.i) 1 0))) ((lines_of (path M) 34 13 S.args.text.now (span_place S.args.i 0) S.args.rows.now) ++ (substance_lines S.args.text.now S.args.rows.now S.args.i)) (package-fits T) (package-in N) (lines_written (lines_of (path M) 34 13 S.args.text.now (span_place S.args.i 0) S.args.rows.now) (substance_lines S.args.text.now S.args.rows.now S.args.i) (fields_fit N) F.fields.ensures X.substance-lines.ensures))
+    (lines_written (given (bytes "MP.S.M.p") (decimal (get_or (record_at S.args.rows.now S.args.i) 1 0))) ((lines_of (path M) 34 13 S.args.text.now (span_place S.args.i 0) S.args.rows.now) ++ (substance_lines S.args.text.now S.args.rows.now S.args.i)) (package-fits T) (package-in N) (lines_written (lines_of (path M) 34 13 S.args.text.now (span_place S.args.i 0) S.args.rows.now) (substance_lines S.args.text.now S.args.rows.now S.args.i) (fields_fit N) F.fields-c.ensures X.substance_lines.ensures))
 
-pub medication-row-spec : {M : Type 1} → statement M
-medication-row-spec =
+pub medication_row_spec : {M : Type 1} → statement M
+medication_row_spec =
     tie.close
     (tie.spec
-    slice-aggregate-text-line
-    slice-aggregate-text-line-2
     text-line-requires
     package-at-requires
-    slice-aggregate-number-line
     number-line-requires
-    slice-aggregate-fields
     mul-fields
     add-fields
     fields-requires

@@ -21,154 +21,122 @@ fit : (S : tie.Start) → Fits S.args.out.now S.args.at (print (row_lines (show_
 fit S = record { inside = S.requires.2 }
 
 -- the lines of such a row
-row-1 : (c : tie.After-enum-told) → let S = c.before.before.before.before.before.before in
+row-1 : (c : tie.In-Heading) → let S = c.before.before.before.before.before.before in
     row_lines (show_row S.args.text.now (record_at S.args.rows.now S.args.i)) ≡ plain_row (row_mark Paper.S) (path Paper.S) 31 2 S.args.text.now S.args.rows.now S.args.i
 row-1 c =
     let K = c.before.before in
     let S = K.before.before.before.before in
-    plain_is S.args.text.now S.args.rows.now S.args.i Paper.S 31 (kind_is (get_or (record_at S.args.rows.now S.args.i) 0 0) ∙ ap paper_kind (sym K.kind_at.ensures ∙ c.enum_told.given.1)) refl (omega arith) row_fields.0
+    plain_is S.args.text.now S.args.rows.now S.args.i Paper.S 31 (kind_is (get_or (record_at S.args.rows.now S.args.i) 0 0) ∙ ap paper_kind (sym K.kind_at-kind.ensures ∙ c.enum_told-1.given.1)) refl (omega arith) row_fields.0
 
 -- the lines of such a row
-row-2 : (c : tie.After-enum-told2) → let S = c.before.before.before.before.before.before in
+row-2 : (c : tie.In-Medication) → let S = c.before.before.before.before.before.before in
     row_lines (show_row S.args.text.now (record_at S.args.rows.now S.args.i)) ≡ medication_row S.args.text.now S.args.rows.now S.args.i
 row-2 c =
     let K = c.before.before in
     let S = K.before.before.before.before in
-    medication_is S.args.text.now S.args.rows.now S.args.i (kind_is (get_or (record_at S.args.rows.now S.args.i) 0 0) ∙ ap paper_kind (sym K.kind_at.ensures ∙ c.enum-told2.given.1))
+    medication_is S.args.text.now S.args.rows.now S.args.i (kind_is (get_or (record_at S.args.rows.now S.args.i) 0 0) ∙ ap paper_kind (sym K.kind_at-kind.ensures ∙ c.enum_told-in-Medication-1.given.1))
 
 -- the lines of such a row
-row-3 : (c : tie.After-enum-told3) → let S = c.before.before.before.before.before.before in
+row-3 : (c : tie.In-Recipe) → let S = c.before.before.before.before.before.before in
     row_lines (show_row S.args.text.now (record_at S.args.rows.now S.args.i)) ≡ plain_row (row_mark Paper.R) (path Paper.R) 49 2 S.args.text.now S.args.rows.now S.args.i
 row-3 c =
     let K = c.before.before in
     let S = K.before.before.before.before in
-    plain_is S.args.text.now S.args.rows.now S.args.i Paper.R 49 (kind_is (get_or (record_at S.args.rows.now S.args.i) 0 0) ∙ ap paper_kind (sym K.kind_at.ensures ∙ c.enum-told3.given.1)) refl (omega arith) row_fields.1
+    plain_is S.args.text.now S.args.rows.now S.args.i Paper.R 49 (kind_is (get_or (record_at S.args.rows.now S.args.i) 0 0) ∙ ap paper_kind (sym K.kind_at-kind.ensures ∙ c.enum_told-in-Recipe-1.given.1)) refl (omega arith) row_fields.1
 
 -- the lines of such a row
-row-4 : (c : tie.After-enum-told4) → let S = c.before.before.before.before.before.before in
+row-4 : (c : tie.In-Note) → let S = c.before.before.before.before.before.before in
     row_lines (show_row S.args.text.now (record_at S.args.rows.now S.args.i)) ≡ plain_row (row_mark Paper.X) (path Paper.X) 51 1 S.args.text.now S.args.rows.now S.args.i
 row-4 c =
     let K = c.before.before in
     let S = K.before.before.before.before in
-    plain_is S.args.text.now S.args.rows.now S.args.i Paper.X 51 (kind_is (get_or (record_at S.args.rows.now S.args.i) 0 0) ∙ ap paper_kind (sym K.kind_at.ensures ∙ c.enum-told4.given.1)) refl (omega arith) row_fields.2
+    plain_is S.args.text.now S.args.rows.now S.args.i Paper.X 51 (kind_is (get_or (record_at S.args.rows.now S.args.i) 0 0) ∙ ap paper_kind (sym K.kind_at-kind.ensures ∙ c.enum_told-in-Note-1.given.1)) refl (omega arith) row_fields.2
 
 -- the lines of such a row
-row-5 : (c : tie.After-enum-told5) → let S = c.before.before.before.before.before.before in
+row-5 : (c : tie.In-Unknown) → let S = c.before.before.before.before.before.before in
     row_lines (show_row S.args.text.now (record_at S.args.rows.now S.args.i)) ≡ plain_row (row_mark Paper.unknown) (path Paper.unknown) 0 0 S.args.text.now S.args.rows.now S.args.i
 row-5 c =
     let K = c.before.before in
     let S = K.before.before.before.before in
-    plain_is S.args.text.now S.args.rows.now S.args.i Paper.unknown 0 (kind_is (get_or (record_at S.args.rows.now S.args.i) 0 0) ∙ ap paper_kind (sym K.kind_at.ensures ∙ c.enum-told5.given.1)) refl (omega arith) row_fields.4
+    plain_is S.args.text.now S.args.rows.now S.args.i Paper.unknown 0 (kind_is (get_or (record_at S.args.rows.now S.args.i) 0 0) ∙ ap paper_kind (sym K.kind_at-kind.ensures ∙ c.enum_told-in-Unknown-1.given.1)) refl (omega arith) row_fields.4
 
-kind-at-requires : tie.Need-kind-at-requires
+kind-at-requires : tie.Need-kind_at-kind-requires
 kind-at-requires c κs = search rules
 
-enum_told : tie.Need-enum-told
+enum_told : tie.Need-enum_told-1
 enum_told c = search rules
 
-slice-aggregate-plain-row : tie.Need-slice-aggregate-plain-row
-slice-aggregate-plain-row c = search rules
-
-slice-aggregate-plain-row-2 : tie.Need-slice-aggregate-plain-row-2
-slice-aggregate-plain-row-2 c = search rules
-
-plain-row-requires : tie.Need-plain-row-requires
+plain-row-requires : tie.Need-plain_row-requires
 plain-row-requires c κs = let E = c.before.before.before in let S = E.before.before.before.before.before.before in (S.requires.0, search rules, search rules, S.requires.1, (fits_as (ap print (row-1 E)) (fit S)).inside)
 
-enum-told-2 : tie.Need-enum-told-2
+enum-told-2 : tie.Need-enum_told-in-Medication
 enum-told-2 c = search rules
 
-medication-row-requires : tie.Need-medication-row-requires
+medication-row-requires : tie.Need-medication_row-requires
 medication-row-requires c κs = let E = c.before in let S = E.before.before.before.before.before.before in (S.requires.0, S.requires.1, (fits_as (ap print (row-2 E)) (fit S)).inside)
 
-enum-told-3 : tie.Need-enum-told-3
+enum-told-3 : tie.Need-enum_told-in-Recipe
 enum-told-3 c = search rules
 
-slice-aggregate-plain-row-3 : tie.Need-slice-aggregate-plain-row-3
-slice-aggregate-plain-row-3 c = search rules
-
-slice-aggregate-plain-row-4 : tie.Need-slice-aggregate-plain-row-4
-slice-aggregate-plain-row-4 c = search rules
-
-plain-row-requires-2 : tie.Need-plain-row-requires-2
+plain-row-requires-2 : tie.Need-plain_row-requires-in-Recipe
 plain-row-requires-2 c κs = let E = c.before.before.before in let S = E.before.before.before.before.before.before in (S.requires.0, search rules, search rules, S.requires.1, (fits_as (ap print (row-3 E)) (fit S)).inside)
 
-enum-told-4 : tie.Need-enum-told-4
+enum-told-4 : tie.Need-enum_told-in-Note
 enum-told-4 c = search rules
 
-slice-aggregate-plain-row-5 : tie.Need-slice-aggregate-plain-row-5
-slice-aggregate-plain-row-5 c = search rules
-
-slice-aggregate-plain-row-6 : tie.Need-slice-aggregate-plain-row-6
-slice-aggregate-plain-row-6 c = search rules
-
-plain-row-requires-3 : tie.Need-plain-row-requires-3
+plain-row-requires-3 : tie.Need-plain_row-requires-in-Note
 plain-row-requires-3 c κs = let E = c.before.before.before in let S = E.before.before.before.before.before.before in (S.requires.0, search rules, search rules, S.requires.1, (fits_as (ap print (row-4 E)) (fit S)).inside)
 
-enum-told-5 : tie.Need-enum-told-5
+enum-told-5 : tie.Need-enum_told-in-Unknown
 enum-told-5 c = search rules
 
-slice-aggregate-plain-row-7 : tie.Need-slice-aggregate-plain-row-7
-slice-aggregate-plain-row-7 c = search rules
-
-slice-aggregate-plain-row-8 : tie.Need-slice-aggregate-plain-row-8
-slice-aggregate-plain-row-8 c = search rules
-
-plain-row-requires-4 : tie.Need-plain-row-requires-4
+plain-row-requires-4 : tie.Need-plain_row-requires-in-Unknown
 plain-row-requires-4 c κs = let E = c.before.before.before in let S = E.before.before.before.before.before.before in (S.requires.0, search rules, search rules, S.requires.1, (fits_as (ap print (row-5 E)) (fit S)).inside)
 
-same_length : tie.Need-same-length
+same_length : tie.Need-shape_of-out-in-Heading
 same_length c = search rules
 
-returns : tie.Need-returns
+returns : tie.Need-returns-in-Heading
 returns c = let D = c.before.before in wrote_as (ap print (row-1 D.before.before.before.before)) D.plain-Row.ensures
 
-same-length-2 : tie.Need-same-length-2
+same-length-2 : tie.Need-shape_of-out-in-Medication
 same-length-2 c = search rules
 
-returns-2 : tie.Need-returns-2
-returns-2 c = let D = c.before.before in wrote_as (ap print (row-2 D.before.before)) D.medication-row.ensures
+returns-2 : tie.Need-returns-in-Medication
+returns-2 c = let D = c.before.before in wrote_as (ap print (row-2 D.before.before)) D.medication_row.ensures
 
-same-length-3 : tie.Need-same-length-3
+same-length-3 : tie.Need-shape_of-out-in-Recipe
 same-length-3 c = search rules
 
-returns-3 : tie.Need-returns-3
-returns-3 c = let D = c.before.before in wrote_as (ap print (row-3 D.before.before.before.before)) D.plain-row2.ensures
+returns-3 : tie.Need-returns-in-Recipe
+returns-3 c = let D = c.before.before in wrote_as (ap print (row-3 D.before.before.before.before)) D.plain_row-in-Recipe.ensures
 
-same-length-4 : tie.Need-same-length-4
+same-length-4 : tie.Need-shape_of-out-in-Note
 same-length-4 c = search rules
 
-returns-4 : tie.Need-returns-4
-returns-4 c = let D = c.before.before in wrote_as (ap print (row-4 D.before.before.before.before)) D.plain-row3.ensures
+returns-4 : tie.Need-returns-in-Note
+returns-4 c = let D = c.before.before in wrote_as (ap print (row-4 D.before.before.before.before)) D.plain_row-in-Note.ensures
 
-same-length-5 : tie.Need-same-length-5
+same-length-5 : tie.Need-shape_of-out-in-Unknown
 same-length-5 c = search rules
 
-returns-5 : tie.Need-returns-5
-returns-5 c = let D = c.before.before in wrote_as (ap print (row-5 D.before.before.before.before)) D.plain-row4.ensures
+returns-5 : tie.Need-returns-in-Unknown
+returns-5 c = let D = c.before.before in wrote_as (ap print (row-5 D.before.before.before.before)) D.plain_row-in-Unknown.ensures
 
-pub row-lines-spec : {M : Type 1} → statement M
-row-lines-spec =
+pub row_lines_spec : {M : Type 1} → statement M
+row_lines_spec =
     tie.close
     (tie.spec
     kind-at-requires
     enum_told
-    slice-aggregate-plain-row
-    slice-aggregate-plain-row-2
     plain-row-requires
     enum-told-2
     medication-row-requires
     enum-told-3
-    slice-aggregate-plain-row-3
-    slice-aggregate-plain-row-4
     plain-row-requires-2
     enum-told-4
-    slice-aggregate-plain-row-5
-    slice-aggregate-plain-row-6
     plain-row-requires-3
     enum-told-5
-    slice-aggregate-plain-row-7
-    slice-aggregate-plain-row-8
     plain-row-requires-4
     same_length
     returns

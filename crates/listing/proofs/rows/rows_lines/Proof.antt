@@ -10,47 +10,47 @@ use borrow.Author.Rules.{rules}
 use Rattle.listing.proofs.rows.rows_lines.Statement.{statement}
 use Rattle.listing.proofs.rows.rows_lines.Tie as tie
 
-abbrev invariant-loop : tie.invariant-loop
+abbrev invariant-loop : tie.invariant-loop-i
 invariant-loop out₀ at text rows n a₀ i₀ out a i = (i ≤ n) × Going out₀ out at a (rows_left text n rows 0) (rows_left text n rows i)
 
-abbrev decreases-loop : tie.decreases-loop
+abbrev decreases-loop : tie.decreases-loop-i
 decreases-loop out₀ at text rows n a₀ i₀ out a i = n - i
 
-loop-holds : tie.Need-loop-init invariant-loop decreases-loop
+loop-holds : tie.Need-loop-i-init invariant-loop decreases-loop
 loop-holds c = (search rules, going_start (record { inside = c.before.before.before.requires.2 }))
 
-row-lines-requires : tie.Need-row-lines-requires invariant-loop decreases-loop
+row-lines-requires : tie.Need-row_lines-a-requires invariant-loop decreases-loop
 row-lines-requires c κs =
     let I = c.before in
     let L = I.before in
     let S = L.before.before.before.before in
-    (omega (arith, S.requires.0, I.loop-test.true), row_inside S.args.text.now S.args.n S.args.rows.now L.loop.i I.loop-test.true S.requires.1, going_fits L.loop.invariant.1 (print (row_lines (show_row S.args.text.now (record_at S.args.rows.now L.loop.i)))) (rows_left S.args.text.now S.args.n S.args.rows.now (L.loop.i + 1)) (next_row S.args.text.now S.args.n S.args.rows.now L.loop.i I.loop-test.true))
+    (omega (arith, S.requires.0, I.loop-i-test.true), row_inside S.args.text.now S.args.n S.args.rows.now L.loop-i.i I.loop-i-test.true S.requires.1, going_fits L.loop-i.invariant.1 (print (row_lines (show_row S.args.text.now (record_at S.args.rows.now L.loop-i.i)))) (rows_left S.args.text.now S.args.n S.args.rows.now (L.loop-i.i + 1)) (next_row S.args.text.now S.args.n S.args.rows.now L.loop-i.i I.loop-i-test.true))
 
-add-i : tie.Need-overflow-add-i invariant-loop decreases-loop
+add-i : tie.Need-overflow_add-i invariant-loop decreases-loop
 add-i c = search rules
 
-loop-less : tie.Need-loop-smaller invariant-loop decreases-loop
+loop-less : tie.Need-loop-i-smaller invariant-loop decreases-loop
 loop-less c = search rules
 
-loop-again : tie.Need-loop-preserved invariant-loop decreases-loop
+loop-again : tie.Need-loop-i-preserved invariant-loop decreases-loop
 loop-again c =
     let R = c.before.before in
     let I = R.before.before in
     let L = I.before in
     let S = L.before.before.before.before in
-    (search rules, going_on L.loop.invariant.1 (print (row_lines (show_row S.args.text.now (record_at S.args.rows.now L.loop.i)))) (rows_left S.args.text.now S.args.n S.args.rows.now (L.loop.i + 1)) (next_row S.args.text.now S.args.n S.args.rows.now L.loop.i I.loop-test.true) R.row-lines.ensures)
+    (search rules, going_on L.loop-i.invariant.1 (print (row_lines (show_row S.args.text.now (record_at S.args.rows.now L.loop-i.i)))) (rows_left S.args.text.now S.args.n S.args.rows.now (L.loop-i.i + 1)) (next_row S.args.text.now S.args.n S.args.rows.now L.loop-i.i I.loop-i-test.true) R.row_lines-a.ensures)
 
-same_length : tie.Need-same-length invariant-loop decreases-loop
-same_length c = c.before.loop.invariant.1.laying.long
+same_length : tie.Need-shape_of-out invariant-loop decreases-loop
+same_length c = c.before.loop-i.invariant.1.laying.long
 
 returns : tie.Need-returns invariant-loop decreases-loop
 returns c =
     let L = c.before in
     let S = L.before.before.before.before in
-    going_done (record { inside = S.requires.2 }) L.loop.invariant.1 (no_row S.args.text.now S.args.n S.args.rows.now L.loop.i c.loop-test.false)
+    going_done (record { inside = S.requires.2 }) L.loop-i.invariant.1 (no_row S.args.text.now S.args.n S.args.rows.now L.loop-i.i c.loop-i-test.false)
 
-pub rows-lines-spec : {M : Type 1} → statement M
-rows-lines-spec =
+pub rows_lines_spec : {M : Type 1} → statement M
+rows_lines_spec =
     tie.close
     (tie.spec
     invariant-loop

@@ -4,11 +4,11 @@ use borrow.Author.Tests.{eq-eqb, ne_eqb}
 use Rattle.markup.proofs.scan.behind.Statement.{statement}
 use Rattle.markup.proofs.scan.behind.Tie as tie
 
-returns : tie.Need-returns
-returns c = rw (eq-eqb _ 0 c.if1.true)
+returns : tie.Need-returns-then-depth-eq0
+returns c = rw (eq-eqb _ 0 c.if-depth-eq0.true)
 
-returns-2 : tie.Need-returns-2
-returns-2 c = rw (ne_eqb _ 0 c.if1.false)
+returns-2 : tie.Need-returns
+returns-2 c = rw (ne_eqb _ 0 c.if-depth-eq0.false)
 
-pub behind-spec : {M : Type 1} → statement M
-behind-spec = tie.close (tie.spec returns returns-2)
+pub behind_spec : {M : Type 1} → statement M
+behind_spec = tie.close (tie.spec returns returns-2)

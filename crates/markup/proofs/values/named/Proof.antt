@@ -6,96 +6,76 @@ use borrow.Author.Rules.{rules}
 use Rattle.markup.proofs.values.named.Statement.{statement}
 use Rattle.markup.proofs.values.named.Tie as tie
 
-slice-aggregate-spells : tie.Need-slice-aggregate-spells
-slice-aggregate-spells c = search rules
-
 spells-requires : tie.Need-spells-requires
 spells-requires c κs = search rules
 
-returns : tie.Need-returns
+returns : tie.Need-returns-then-spells
 unfolding named_of
-returns c = rw (sym c.before.spells.ensures ∙ c.if1.true)
-
-slice-aggregate-spells-2 : tie.Need-slice-aggregate-spells-2
-slice-aggregate-spells-2 c = search rules
+returns c = rw (sym c.before.spells.ensures ∙ c.if-spells.true)
 
 spells-requires-2 : tie.Need-spells-requires-2
 spells-requires-2 c κs = search rules
 
-returns-2 : tie.Need-returns-2
+returns-2 : tie.Need-returns-then-spells-2
 unfolding named_of
 returns-2 c =
     let c1 = c.before.before.before in
-    rw (sym c1.before.spells.ensures ∙ c1.if1.false, sym c.before.spells2.ensures ∙ c.if2.true)
-
-slice-aggregate-spells-3 : tie.Need-slice-aggregate-spells-3
-slice-aggregate-spells-3 c = search rules
+    rw (sym c1.before.spells.ensures ∙ c1.if1.false, sym c.before.spells-2.ensures ∙ c.if-spells-2.true)
 
 spells-requires-3 : tie.Need-spells-requires-3
 spells-requires-3 c κs = search rules
 
-returns-3 : tie.Need-returns-3
+returns-3 : tie.Need-returns-then-spells-3
 unfolding named_of
 returns-3 c =
     let c2 = c.before.before.before in
     let c1 = c2.before.before.before in
-    rw (sym c1.before.spells.ensures ∙ c1.if1.false, sym c2.before.spells2.ensures ∙ c2.if2.false, sym c.before.spells3.ensures ∙ c.if3.true)
-
-slice-aggregate-spells-4 : tie.Need-slice-aggregate-spells-4
-slice-aggregate-spells-4 c = search rules
+    rw (sym c1.before.spells.ensures ∙ c1.if1.false, sym c2.before.spells2.ensures ∙ c2.if2.false, sym c.before.spells-3.ensures ∙ c.if-spells-3.true)
 
 spells-requires-4 : tie.Need-spells-requires-4
 spells-requires-4 c κs = search rules
 
-returns-4 : tie.Need-returns-4
+returns-4 : tie.Need-returns-then-spells-4
 unfolding named_of
 returns-4 c =
     let c3 = c.before.before.before in
     let c2 = c3.before.before.before in
     let c1 = c2.before.before.before in
-    rw (sym c1.before.spells.ensures ∙ c1.if1.false, sym c2.before.spells2.ensures ∙ c2.if2.false, sym c3.before.spells3.ensures ∙ c3.if3.false, sym c.before.spells4.ensures ∙ c.if4.true)
-
-slice-aggregate-spells-5 : tie.Need-slice-aggregate-spells-5
-slice-aggregate-spells-5 c = search rules
+    rw (sym c1.before.spells.ensures ∙ c1.if1.false, sym c2.before.spells2.ensures ∙ c2.if2.false, sym c3.before.spells3.ensures ∙ c3.if3.false, sym c.before.spells-4.ensures ∙ c.if-spells-4.true)
 
 spells-requires-5 : tie.Need-spells-requires-5
 spells-requires-5 c κs = search rules
 
-returns-5 : tie.Need-returns-5
+returns-5 : tie.Need-returns-then-spells-5
 unfolding named_of
 returns-5 c =
     let c4 = c.before.before.before in
     let c3 = c4.before.before.before in
     let c2 = c3.before.before.before in
     let c1 = c2.before.before.before in
-    rw (sym c1.before.spells.ensures ∙ c1.if1.false, sym c2.before.spells2.ensures ∙ c2.if2.false, sym c3.before.spells3.ensures ∙ c3.if3.false, sym c4.before.spells4.ensures ∙ c4.if4.false, sym c.before.spells5.ensures ∙ c.if5.true)
+    rw (sym c1.before.spells.ensures ∙ c1.if1.false, sym c2.before.spells2.ensures ∙ c2.if2.false, sym c3.before.spells3.ensures ∙ c3.if3.false, sym c4.before.spells4.ensures ∙ c4.if4.false, sym c.before.spells-5.ensures ∙ c.if-spells-5.true)
 
-returns-6 : tie.Need-returns-6
+returns-6 : tie.Need-returns
 unfolding named_of
 returns-6 c =
     let c4 = c.before.before.before in
     let c3 = c4.before.before.before in
     let c2 = c3.before.before.before in
     let c1 = c2.before.before.before in
-    rw (sym c1.before.spells.ensures ∙ c1.if1.false, sym c2.before.spells2.ensures ∙ c2.if2.false, sym c3.before.spells3.ensures ∙ c3.if3.false, sym c4.before.spells4.ensures ∙ c4.if4.false, sym c.before.spells5.ensures ∙ c.if5.false)
+    rw (sym c1.before.spells.ensures ∙ c1.if1.false, sym c2.before.spells2.ensures ∙ c2.if2.false, sym c3.before.spells3.ensures ∙ c3.if3.false, sym c4.before.spells4.ensures ∙ c4.if4.false, sym c.before.spells-5.ensures ∙ c.if-spells-5.false)
 
-pub named-spec : {M : Type 1} → statement M
-named-spec =
+pub named_spec : {M : Type 1} → statement M
+named_spec =
     tie.close
     (tie.spec
-    slice-aggregate-spells
     spells-requires
     returns
-    slice-aggregate-spells-2
     spells-requires-2
     returns-2
-    slice-aggregate-spells-3
     spells-requires-3
     returns-3
-    slice-aggregate-spells-4
     spells-requires-4
     returns-4
-    slice-aggregate-spells-5
     spells-requires-5
     returns-5
     returns-6)

@@ -32,47 +32,47 @@ blanks-done {out₀} {out} {n} {k} {b} v f e L =
     let g : n ≤ length out₀ = omega arith in
     (all_laid g (next_byte (subst (λ (j : ℕ). Laying out₀ out n (n + j) (blanks_then b v) (v ∷ [])) e (told L (rw q))) f)).1
 
-abbrev invariant-loop : tie.invariant-loop
+abbrev invariant-loop : tie.invariant-loop-k
 invariant-loop out₀ n blanks v k₀ out k = (k ≤ blanks) × Laying out₀ out n (n + k) (blanks_then blanks v) (blanks_then (blanks - k) v)
 
-abbrev decreases-loop : tie.decreases-loop
+abbrev decreases-loop : tie.decreases-loop-k
 decreases-loop out₀ n blanks v k₀ out k = blanks - k
 
-loop-holds : tie.Need-loop-init invariant-loop decreases-loop
+loop-holds : tie.Need-loop-k-init invariant-loop decreases-loop
 loop-holds c = (search rules, rw (sub-zero c.args.blanks) (start_at c.args.out.now c.args.n _ (search rules)))
 
-add-out : tie.Need-overflow-add-out invariant-loop decreases-loop
+add-out : tie.Need-overflow_add-out invariant-loop decreases-loop
 add-out c = search rules
 
-slice-write-out : tie.Need-slice-write-out invariant-loop decreases-loop
+slice-write-out : tie.Need-bounds-out-n invariant-loop decreases-loop
 slice-write-out c = search rules
 
-add-k : tie.Need-overflow-add-k invariant-loop decreases-loop
+add-k : tie.Need-overflow_add-k invariant-loop decreases-loop
 add-k c = search rules
 
-loop-less : tie.Need-loop-smaller invariant-loop decreases-loop
+loop-less : tie.Need-loop-k-smaller invariant-loop decreases-loop
 loop-less c = search rules
 
-loop-again : tie.Need-loop-preserved invariant-loop decreases-loop
-loop-again c = let L = c.before in (search rules, blank_turn L.before.args.v L.before.requires c.loop-test.true L.loop.invariant.1)
+loop-again : tie.Need-loop-k-preserved invariant-loop decreases-loop
+loop-again c = let L = c.before in (search rules, blank_turn L.before.args.v L.before.requires c.loop-k-test.true L.loop-k.invariant.1)
 
-add-out-2 : tie.Need-overflow-add-out-2 invariant-loop decreases-loop
+add-out-2 : tie.Need-overflow_add-out-2 invariant-loop decreases-loop
 add-out-2 c = search rules
 
-slice-write-out-2 : tie.Need-slice-write-out-2 invariant-loop decreases-loop
+slice-write-out-2 : tie.Need-bounds-out-n-2 invariant-loop decreases-loop
 slice-write-out-2 c = search rules
 
-add-result : tie.Need-overflow-add-result invariant-loop decreases-loop
+add-result : tie.Need-overflow_add-result invariant-loop decreases-loop
 add-result c = search rules
 
-add-result-2 : tie.Need-overflow-add-result-2 invariant-loop decreases-loop
+add-result-2 : tie.Need-overflow_add-result-2 invariant-loop decreases-loop
 add-result-2 c = search rules
 
-same_length : tie.Need-same-length invariant-loop decreases-loop
+same_length : tie.Need-shape_of-out invariant-loop decreases-loop
 same_length c = search rules
 
 returns : tie.Need-returns invariant-loop decreases-loop
-returns c = let L = c.before in (refl, blanks-done L.before.args.v L.before.requires (search rules) L.loop.invariant.1)
+returns c = let L = c.before in (refl, blanks-done L.before.args.v L.before.requires (search rules) L.loop-k.invariant.1)
 
 pub put_spec : {M : Type 1} → statement M
 put_spec =

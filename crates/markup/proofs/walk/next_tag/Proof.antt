@@ -7,43 +7,43 @@ use borrow.Author.Rules.{rules}
 use Rattle.markup.proofs.walk.next_tag.Statement.{statement}
 use Rattle.markup.proofs.walk.next_tag.Tie as tie
 
-run-requires : tie.Need-run-requires
+run-requires : tie.Need-run-i-requires
 run-requires c κs = search rules
 
-returns : tie.Need-returns
-returns c = (no_tag _ _ _ c.before.run.ensures.0 c.if1.true, tt)
+returns : tie.Need-returns-then-i-page
+returns c = (no_tag _ _ _ c.before.run-i.ensures.0 c.if-i-page.true, tt)
 
-add-byte-or : tie.Need-overflow-add-byte-or
+add-byte-or : tie.Need-overflow_add-i
 add-byte-or c = search rules
 
-byte-or-requires : tie.Need-byte-or-requires
+byte-or-requires : tie.Need-byte_or-requires
 byte-or-requires c κs = search rules
 
-returns-2 : tie.Need-returns-2
+returns-2 : tie.Need-returns-then-byte_or-eq47
 returns-2 c =
     let R = c.before.before.before in
     let a = R.before.before.args in (
-      tag_at a.page.now a.at _ R.run.ensures.0 (search rules) ∙ ending a.page.now R.run.result _ _ c.before.byte_or.ensures c.if2.true,
-      (R.run.ensures.1, search rules),
+      tag_at a.page.now a.at _ R.run-i.ensures.0 (search rules) ∙ ending a.page.now R.run-i.result _ _ c.before.byte_or.ensures c.if-byte_or-eq47.true,
+      (R.run-i.ensures.1, search rules),
     )
 
-add-run : tie.Need-overflow-add-run
+add-run : tie.Need-overflow_add-i-2
 add-run c = search rules
 
-run-requires-2 : tie.Need-run-requires-2
+run-requires-2 : tie.Need-run-e-requires
 run-requires-2 c κs = search rules
 
-returns-3 : tie.Need-returns-3
+returns-3 : tie.Need-returns
 returns-3 c =
     let B = c.before.before in
     let R = B.before.before in
     let a = R.before.before.args in (
-      tag_at a.page.now a.at _ R.run.ensures.0 (search rules) ∙ starting a.page.now R.run.result _ _ _ B.byte_or.ensures c.before.if2.false c.run2.ensures.0,
-      (R.run.ensures.1, omega arith, c.run2.ensures.2 (search rules)),
+      tag_at a.page.now a.at _ R.run-i.ensures.0 (search rules) ∙ starting a.page.now R.run-i.result _ _ _ B.byte_or.ensures c.before.if-byte_or-eq47.false c.run-e.ensures.0,
+      (R.run-i.ensures.1, omega arith, c.run-e.ensures.2 (search rules)),
     )
 
-pub next-tag-spec : {M : Type 1} → statement M
-next-tag-spec =
+pub next_tag_spec : {M : Type 1} → statement M
+next_tag_spec =
     tie.close
     (tie.spec
     run-requires

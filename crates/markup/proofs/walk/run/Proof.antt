@@ -11,44 +11,44 @@ use borrow.Author.Rules.{rules}
 use Rattle.markup.proofs.walk.run.Statement.{statement}
 use Rattle.markup.proofs.walk.run.Tie as tie
 
-abbrev invariant-loop : tie.invariant-loop
+abbrev invariant-loop : tie.invariant-loop-i
 invariant-loop page at k i₀ i = (at ≤ i) × (at ≤ length page → i ≤ length page) × (at + until (passes k) (drop at page) ≡ i + until (passes k) (drop i page))
 
-abbrev decreases-loop : tie.decreases-loop
+abbrev decreases-loop : tie.decreases-loop-i
 decreases-loop page at k i₀ i = length page - i
 
-loop-holds : tie.Need-loop-init invariant-loop decreases-loop
+loop-holds : tie.Need-loop-i-init invariant-loop decreases-loop
 loop-holds c = (omega arith, (λ h. h), refl)
 
-shared-slice-read-in-set : tie.Need-shared-slice-read-in-set invariant-loop decreases-loop
+shared-slice-read-in-set : tie.Need-bounds-page-i invariant-loop decreases-loop
 shared-slice-read-in-set c = search rules
 
-in-set-requires : tie.Need-in-set-requires invariant-loop decreases-loop
+in-set-requires : tie.Need-in_set-requires invariant-loop decreases-loop
 in-set-requires c κs = search rules
 
-add-i : tie.Need-overflow-add-i invariant-loop decreases-loop
+add-i : tie.Need-overflow_add-i invariant-loop decreases-loop
 add-i c = search rules
 
-loop-less : tie.Need-loop-smaller invariant-loop decreases-loop
+loop-less : tie.Need-loop-i-smaller invariant-loop decreases-loop
 loop-less c = search rules
 
-loop-again : tie.Need-loop-preserved invariant-loop decreases-loop
+loop-again : tie.Need-loop-i-preserved invariant-loop decreases-loop
 loop-again c =
     let L = c.before.before.before.before in
     let a = L.before.before.args in
-    (omega arith, (λ h. omega arith), L.loop.invariant.2 ∙ run_on (passes a.k) a.page.now L.loop.i (search rules) (sym c.before.in-set.ensures ∙ c.if1.true))
+    (omega arith, (λ h. omega arith), L.loop-i.invariant.2 ∙ run_on (passes a.k) a.page.now L.loop-i.i (search rules) (sym c.before.in_set.ensures ∙ c.if-in_set.true))
 
-returns : tie.Need-returns invariant-loop decreases-loop
+returns : tie.Need-returns-else-in_set invariant-loop decreases-loop
 returns c =
     let L = c.before.before.before.before in
     let a = L.before.before.args in
-    (sym (L.loop.invariant.2 ∙ run_ends (passes a.k) a.page.now L.loop.i (search rules) (sym c.before.in-set.ensures ∙ c.if1.false)), L.loop.invariant.0, L.loop.invariant.1)
+    (sym (L.loop-i.invariant.2 ∙ run_ends (passes a.k) a.page.now L.loop-i.i (search rules) (sym c.before.in_set.ensures ∙ c.if-in_set.false)), L.loop-i.invariant.0, L.loop-i.invariant.1)
 
-returns-2 : tie.Need-returns-2 invariant-loop decreases-loop
+returns-2 : tie.Need-returns invariant-loop decreases-loop
 returns-2 c =
     let L = c.before in
     let a = L.before.before.args in
-    (sym (L.loop.invariant.2 ∙ run_over (passes a.k) a.page.now L.loop.i c.loop-test.false), L.loop.invariant.0, L.loop.invariant.1)
+    (sym (L.loop-i.invariant.2 ∙ run_over (passes a.k) a.page.now L.loop-i.i c.loop-i-test.false), L.loop-i.invariant.0, L.loop-i.invariant.1)
 
 pub run_spec : {M : Type 1} → statement M
 run_spec =

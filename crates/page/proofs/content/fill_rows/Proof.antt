@@ -28,34 +28,34 @@ record Held (w x t : List ℕ) (j : ℕ) (text₀ text : List ℕ) (n m : ℕ) (
   pub fit : FitBy rest
   pub filling : Filling (rows_from (tags_at w 0)) (rows_by rest) text₀ text n m rows₀ rows r k
 
-abbrev invariant-loop : tie.invariant-loop
+abbrev invariant-loop : tie.invariant-loop-f
 invariant-loop page side tape i j rows₀ text₀ n r m₀ k₀ f₀ rows text m k f = Held page side tape j text₀ text n m rows₀ rows r k f
 
-abbrev decreases-loop : tie.decreases-loop
+abbrev decreases-loop : tie.decreases-loop-f
 decreases-loop page side tape i j rows₀ text₀ n r m₀ k₀ f₀ rows text m k f = j - f
 
-next : (c : tie.In-loop invariant-loop decreases-loop) → Step c.before.before.before.before.before.before.before.args.page.now c.before.before.before.before.before.before.before.args.side.now c.before.before.before.before.before.before.before.args.tape.now c.before.loop.f c.before.before.before.before.before.before.before.args.j c.before.loop.invariant.rest
-next c = step _ _ _ _ _ _ c.before.loop.invariant.lies c.loop-test.true
+next : (c : tie.In-loop-f invariant-loop decreases-loop) → Step c.before.before.before.before.before.before.before.args.page.now c.before.before.before.before.before.before.before.args.side.now c.before.before.before.before.before.before.before.args.tape.now c.before.loop-f.f c.before.before.before.before.before.before.before.args.j c.before.loop-f.invariant.rest
+next c = step _ _ _ _ _ _ c.before.loop-f.invariant.lies c.loop-f-test.true
 
 -- the rows that are laid, where those are left
-abbrev Left : tie.At-loop invariant-loop decreases-loop → List Row → Type 0
+abbrev Left : tie.At-loop-f invariant-loop decreases-loop → List Row → Type 0
 Left c rest = let a = c.before.before.before.before.before.before.args in let l = c.loop in Filling (rows_from (tags_at a.page.now 0)) rest a.text.now l.text a.n l.m a.rows.now l.rows a.r l.k
 
 -- a medication stands next
-med : (c : tie.Then1 invariant-loop decreases-loop) → Medication c.before.before.before.before.before.before.before.before.before.before.args.page.now c.before.before.before.before.before.before.before.before.before.before.args.side.now c.before.before.before.before.before.before.before.before.before.before.args.tape.now c.before.before.before.before.loop.f c.before.before.before.before.before.before.before.before.before.before.args.j c.before.before.before.before.loop.invariant.rest (next c.before.before.before).rest
-med c = medication_next (next c.before.before.before) c.before.before.before.before.loop.invariant.fit c.if1.true
+med : (c : tie.Then-kind-eq-M invariant-loop decreases-loop) → Medication c.before.before.before.before.before.before.before.before.before.before.args.page.now c.before.before.before.before.before.before.before.before.before.before.args.side.now c.before.before.before.before.before.before.before.before.before.before.args.tape.now c.before.before.before.before.loop-f.f c.before.before.before.before.before.before.before.before.before.before.args.j c.before.before.before.before.loop-f.invariant.rest (next c.before.before.before).rest
+med c = medication_next (next c.before.before.before) c.before.before.before.before.loop-f.invariant.fit c.if-kind-eq-M.true
 
-med-filling : (c : tie.Then1 invariant-loop decreases-loop) → Left c.before.before.before.before (row_from M (values_at c.before.before.before.before.before.before.before.before.before.before.args.page.now c.before.before.before.before.before.before.before.before.before.before.args.side.now 14 c.before.before.before.before.before.before.before.before.before.before.args.tape.now (c.before.before.before.before.loop.f + 3)) (ws_by (next c.before.before.before).rest) ∷ rows_by (next c.before.before.before).rest)
-med-filling c = refill (med c).row_is c.before.before.before.before.loop.invariant.filling
+med-filling : (c : tie.Then-kind-eq-M invariant-loop decreases-loop) → Left c.before.before.before.before (row_from M (values_at c.before.before.before.before.before.before.before.before.before.before.args.page.now c.before.before.before.before.before.before.before.before.before.before.args.side.now 14 c.before.before.before.before.before.before.before.before.before.before.args.tape.now (c.before.before.before.before.loop-f.f + 3)) (ws_by (next c.before.before.before).rest) ∷ rows_by (next c.before.before.before).rest)
+med-filling c = refill (med c).row_is c.before.before.before.before.loop-f.invariant.filling
 
 -- another row stands next
-plain-filling : (c : tie.Then2 invariant-loop decreases-loop) → Left c.before.before.before.before.before.before (row_from (kind_at (get_or c.before.before.before.before.before.before.before.before.before.before.before.before.args.tape.now c.before.before.before.before.before.before.loop.f 0)) (here (next c.before.before.before.before.before)) [] ∷ rows_by (next c.before.before.before.before.before).rest)
+plain-filling : (c : tie.Then-gives_row invariant-loop decreases-loop) → Left c.before.before.before.before.before.before (row_from (kind_at (get_or c.before.before.before.before.before.before.before.before.before.before.before.before.args.tape.now c.before.before.before.before.before.before.loop-f.f 0)) (here (next c.before.before.before.before.before)) [] ∷ rows_by (next c.before.before.before.before.before).rest)
 plain-filling c =
     let N = next c.before.before.before.before.before in
-    refill (row_next N (sym c.before.Gives-row.ensures ∙ c.if2.true)
-    ∙ ap (λ (r : Row). r ∷ rows_by N.rest) (plain_ws (get_or c.before.before.before.before.before.before.before.before.before.before.before.before.args.tape.now c.before.before.before.before.before.before.loop.f 0) N.known c.before.before.if1.false (here N) (ws_by N.rest))) c.before.before.before.before.before.before.loop.invariant.filling
+    refill (row_next N (sym c.before.Gives-row.ensures ∙ c.if-gives_row.true)
+    ∙ ap (λ (r : Row). r ∷ rows_by N.rest) (plain_ws (get_or c.before.before.before.before.before.before.before.before.before.before.before.before.args.tape.now c.before.before.before.before.before.before.loop-f.f 0) N.known c.before.before.if-kind-eq-M.false (here N) (ws_by N.rest))) c.before.before.before.before.before.before.loop-f.invariant.filling
 
-loop-holds : tie.Need-loop-init invariant-loop decreases-loop
+loop-holds : tie.Need-loop-f-init invariant-loop decreases-loop
 loop-holds c =
     let S = c.before.before.before.before.before in
     let f = S.requires.1.fits in
@@ -67,133 +67,133 @@ loop-holds c =
       filling = refill (sym (rows_by_lem (tags_at w 0))) (begin_rows (rows_from (tags_at w 0)) S.args.text.now S.args.n S.args.rows.now S.args.r (omega arith) (omega (arith, S.requires.2)));
     }
 
-mul-kind : tie.Need-overflow-mul-kind invariant-loop decreases-loop
+mul-kind : tie.Need-offset_bounds-tape-f invariant-loop decreases-loop
 mul-kind c = search rules
 
-shared-slice-read-kind : tie.Need-shared-slice-read-kind invariant-loop decreases-loop
+shared-slice-read-kind : tie.Need-bounds-tape-f invariant-loop decreases-loop
 shared-slice-read-kind c = let N = next c.before in omega (arith, N.wide, N.high, c.before.before.before.before.before.before.before.before.requires.0.taped.within.0)
 
-cast-kind : tie.Need-overflow-cast-kind invariant-loop decreases-loop
+cast-kind : tie.Need-overflow_cast-kind invariant-loop decreases-loop
 cast-kind c = let N = next c.before in omega (arith, N.known)
 
-add-next : tie.Need-overflow-add-next invariant-loop decreases-loop
+add-next : tie.Need-overflow_add-next invariant-loop decreases-loop
 add-next c = let N = next c.before in omega (arith, N.wide, N.high, c.before.before.before.before.before.before.before.before.well-formed)
 
-mul_next : tie.Need-overflow-mul-next invariant-loop decreases-loop
+mul_next : tie.Need-offset_bounds-tape-f-in-loop-f invariant-loop decreases-loop
 mul_next c = search rules
 
-shared-slice-read-next : tie.Need-shared-slice-read-next invariant-loop decreases-loop
+shared-slice-read-next : tie.Need-bounds-tape-f-in-loop-f invariant-loop decreases-loop
 shared-slice-read-next c = let N = next c.before.before in omega (arith, N.wide, N.high, c.before.before.before.before.before.before.before.before.before.requires.0.taped.within.0)
 
-cast-next : tie.Need-overflow-cast-next invariant-loop decreases-loop
-cast-next c = omega (arith, c.shared-slice-known5.given (c.before.before.before.loop.f + 2))
+cast-next : tie.Need-overflow_cast-next invariant-loop decreases-loop
+cast-next c = omega (arith, c.shared_slice_known-in-loop-f-2-1.given (c.before.before.before.loop-f.f + 2))
 
-add-lay-medication : tie.Need-overflow-add-lay-medication invariant-loop decreases-loop
+add-lay-medication : tie.Need-overflow_add-f invariant-loop decreases-loop
 add-lay-medication c = let N = next c.before.before.before in omega (arith, N.wide, N.high, c.before.before.before.before.before.before.before.before.before.before.well-formed)
 
-lay-medication-requires : tie.Need-lay-medication-requires invariant-loop decreases-loop
+lay-medication-requires : tie.Need-lay_medication-m-requires invariant-loop decreases-loop
 lay-medication-requires c κs =
     let S = c.before.before.before.before.before.before.before.before.before.before.before.before in
     let L = c.before.before.before.before.before.before in
     let N = next c.before.before.before.before.before in
     let D = med c.before.before in
     let F = med-filling c.before.before in
-    let vs = values_at S.args.page.now S.args.side.now 14 S.args.tape.now (L.loop.f + 3) in (
+    let vs = values_at S.args.page.now S.args.side.now 14 S.args.tape.now (L.loop-f.f + 3) in (
       omega (arith, D.wide, N.high, S.requires.0.taped.within.0),
       D.lie,
       D.short,
-      record { elems = N.rest; lies = N.behind_it; within = S.requires.0.taped.within.0; fit = (fit_next N L.loop.invariant.fit).2 },
+      record { elems = N.rest; lies = N.behind_it; within = S.requires.0.taped.within.0; fit = (fit_next N L.loop-f.invariant.fit).2 },
       row_space F S.requires.1 S.requires.2,
-      λ es K. subst (λ (l : List Elem). (length (ws_by l) ≤ 3) × Room (row_values (row_from M vs (ws_by l))) L.loop.text L.loop.m) (lies_same _ _ _ _ _ _ N.rest es N.behind_it K)
+      λ es K. subst (λ (l : List Elem). (length (ws_by l) ≤ 3) × Room (row_values (row_from M vs (ws_by l))) L.loop-f.text L.loop-f.m) (lies_same _ _ _ _ _ _ N.rest es N.behind_it K)
           (D.few, row_room F S.requires.1 S.requires.2),
     )
 
-add-k : tie.Need-overflow-add-k invariant-loop decreases-loop
+add-k : tie.Need-overflow_add-k invariant-loop decreases-loop
 add-k c =
     let S = c.before.before.before.before.before.before.before.before.before.before.before.before.before.before.before.before.before in
     let s = row_space (med-filling c.before.before.before.before.before.before.before) S.requires.1 S.requires.2 in
-    omega (arith, s, c.before.before.before.before.before.before.before.before.before.before.before.loop.invariant.filling.rows_so.long, S.well-formed)
+    omega (arith, s, c.before.before.before.before.before.before.before.before.before.before.before.loop-f.invariant.filling.rows_so.long, S.well-formed)
 
-loop-less : tie.Need-loop-smaller invariant-loop decreases-loop
+loop-less : tie.Need-loop-f-smaller-then-kind-eq-M invariant-loop decreases-loop
 loop-less c =
     let at-loop-test = c.before.before.before.before.before.before.before.before.before.before in
-    let N = next at-loop-test in omega (arith, N.wide, at-loop-test.loop-test.true)
+    let N = next at-loop-test in omega (arith, N.wide, at-loop-test.loop-f-test.true)
 
-loop-again : tie.Need-loop-preserved invariant-loop decreases-loop
+loop-again : tie.Need-loop-f-preserved-then-kind-eq-M invariant-loop decreases-loop
 loop-again c =
     let S = c.before.before.before.before.before.before.before.before.before.before.before.before.before.before.before.before.before in
     let N = next c.before.before.before.before.before.before.before.before.before.before in
     record {
       rest = N.rest;
       lies = N.behind_it;
-      fit = (fit_next N c.before.before.before.before.before.before.before.before.before.before.before.loop.invariant.fit).2;
-      filling = row_turn (med-filling c.before.before.before.before.before.before.before) S.requires.1 S.requires.2 (c.before.before.before.before.lay-medication.ensures N.rest N.behind_it);
+      fit = (fit_next N c.before.before.before.before.before.before.before.before.before.before.before.loop-f.invariant.fit).2;
+      filling = row_turn (med-filling c.before.before.before.before.before.before.before) S.requires.1 S.requires.2 (c.before.before.before.before.lay_medication-m.ensures N.rest N.behind_it);
     }
 
-add-gives-row : tie.Need-overflow-add-gives-row invariant-loop decreases-loop
+add-gives-row : tie.Need-overflow_add-f-else-kind-eq-M invariant-loop decreases-loop
 add-gives-row c = let N = next c.before.before.before in omega (arith, N.wide, N.high, c.before.before.before.before.before.before.before.before.before.before.well-formed)
 
-gives-row-requires : tie.Need-gives-row-requires invariant-loop decreases-loop
+gives-row-requires : tie.Need-gives_row-requires invariant-loop decreases-loop
 gives-row-requires c κs = let N = next c.before.before.before in (N.known, omega (arith, N.wide, N.high, c.before.before.before.before.before.before.before.before.before.before.requires.0.taped.within.0), N.lie)
 
-add-lay-plain : tie.Need-overflow-add-lay-plain invariant-loop decreases-loop
+add-lay-plain : tie.Need-overflow_add-f-then-gives_row invariant-loop decreases-loop
 add-lay-plain c = let N = next c.before.before.before.before.before in omega (arith, N.wide, N.high, c.before.before.before.before.before.before.before.before.before.before.before.before.well-formed)
 
-lay-plain-requires : tie.Need-lay-plain-requires invariant-loop decreases-loop
+lay-plain-requires : tie.Need-lay_plain-m-requires invariant-loop decreases-loop
 lay-plain-requires c κs =
     let S = c.before.before.before.before.before.before.before.before.before.before.before.before.before.before in
     let N = next c.before.before.before.before.before.before.before in
     let F = plain-filling c.before.before in
-    (N.known, c.before.before.before.before.if1.false, omega (arith, N.wide, N.high, S.requires.0.taped.within.0), N.lie, row_room F S.requires.1 S.requires.2, row_space F S.requires.1 S.requires.2)
+    (N.known, c.before.before.before.before.if-kind-eq-M.false, omega (arith, N.wide, N.high, S.requires.0.taped.within.0), N.lie, row_room F S.requires.1 S.requires.2, row_space F S.requires.1 S.requires.2)
 
-add-k-2 : tie.Need-overflow-add-k-2 invariant-loop decreases-loop
+add-k-2 : tie.Need-overflow_add-k-then-gives_row invariant-loop decreases-loop
 add-k-2 c =
     let S = c.before.before.before.before.before.before.before.before.before.before.before.before.before.before.before.before.before.before.before in
     let s = row_space (plain-filling c.before.before.before.before.before.before.before) S.requires.1 S.requires.2 in
-    omega (arith, s, c.before.before.before.before.before.before.before.before.before.before.before.before.before.loop.invariant.filling.rows_so.long, S.well-formed)
+    omega (arith, s, c.before.before.before.before.before.before.before.before.before.before.before.before.before.loop-f.invariant.filling.rows_so.long, S.well-formed)
 
-loop-less-2 : tie.Need-loop-smaller-2 invariant-loop decreases-loop
+loop-less-2 : tie.Need-loop-f-smaller-then-gives_row invariant-loop decreases-loop
 loop-less-2 c =
     let at-loop-test = c.before.before.before.before.before.before.before.before.before.before.before.before in
-    let N = next at-loop-test in omega (arith, N.wide, at-loop-test.loop-test.true)
+    let N = next at-loop-test in omega (arith, N.wide, at-loop-test.loop-f-test.true)
 
-loop-again-2 : tie.Need-loop-preserved-2 invariant-loop decreases-loop
+loop-again-2 : tie.Need-loop-f-preserved-then-gives_row invariant-loop decreases-loop
 loop-again-2 c =
     let S = c.before.before.before.before.before.before.before.before.before.before.before.before.before.before.before.before.before.before.before in
     let N = next c.before.before.before.before.before.before.before.before.before.before.before.before in
     record {
       rest = N.rest;
       lies = N.behind_it;
-      fit = (fit_next N c.before.before.before.before.before.before.before.before.before.before.before.before.before.loop.invariant.fit).2;
-      filling = row_turn (plain-filling c.before.before.before.before.before.before.before) S.requires.1 S.requires.2 c.before.before.before.before.lay-plain.ensures;
+      fit = (fit_next N c.before.before.before.before.before.before.before.before.before.before.before.before.before.loop-f.invariant.fit).2;
+      filling = row_turn (plain-filling c.before.before.before.before.before.before.before) S.requires.1 S.requires.2 c.before.before.before.before.lay_plain-m.ensures;
     }
 
-loop-less-3 : tie.Need-loop-smaller-3 invariant-loop decreases-loop
+loop-less-3 : tie.Need-loop-f-smaller invariant-loop decreases-loop
 loop-less-3 c =
     let at-loop-test = c.before.before.before.before.before in
-    let N = next at-loop-test in omega (arith, N.wide, at-loop-test.loop-test.true)
+    let N = next at-loop-test in omega (arith, N.wide, at-loop-test.loop-f-test.true)
 
-loop-again-3 : tie.Need-loop-preserved-3 invariant-loop decreases-loop
+loop-again-3 : tie.Need-loop-f-preserved invariant-loop decreases-loop
 loop-again-3 c =
     let N = next c.before.before.before.before.before in
-    let v = c.before.before.before.before.before.before.loop.invariant in
-    record { rest = N.rest; lies = N.behind_it; fit = (fit_next N v.fit).2; filling = refill (no_row_next N (sym c.before.Gives-row.ensures ∙ c.if2.false)) v.filling }
+    let v = c.before.before.before.before.before.before.loop-f.invariant in
+    record { rest = N.rest; lies = N.behind_it; fit = (fit_next N v.fit).2; filling = refill (no_row_next N (sym c.before.Gives-row.ensures ∙ c.if-gives_row.false)) v.filling }
 
-same_length : tie.Need-same-length invariant-loop decreases-loop
+same_length : tie.Need-shape_of-rows invariant-loop decreases-loop
 same_length c = search rules
 
-same-length-2 : tie.Need-same-length-2 invariant-loop decreases-loop
+same-length-2 : tie.Need-shape_of-text invariant-loop decreases-loop
 same-length-2 c = search rules
 
 returns : tie.Need-returns invariant-loop decreases-loop
 returns c =
     let S = c.before.before.before.before.before.before.before in
-    let v = c.before.loop.invariant in
+    let v = c.before.loop-f.invariant in
     let f = S.requires.1.fits in
-    finish_rows (refill (rows_none v.rest (no_step _ _ _ _ _ v.rest v.lies c.loop-test.false)) v.filling) (omega arith) (omega (arith, S.requires.2))
+    finish_rows (refill (rows_none v.rest (no_step _ _ _ _ _ v.rest v.lies c.loop-f-test.false)) v.filling) (omega arith) (omega (arith, S.requires.2))
 
-pub fill-rows-spec : {M : Type 1} → statement M
-fill-rows-spec =
+pub fill_rows_spec : {M : Type 1} → statement M
+fill_rows_spec =
     tie.close
     (tie.spec
     invariant-loop

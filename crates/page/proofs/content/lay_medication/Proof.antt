@@ -22,22 +22,22 @@ first S = shown_in S.args.page.now S.args.side.now (get_or S.args.tape.now S.arg
 abbrev others : tie.Start → Slots
 others S = values_at S.args.page.now S.args.side.now 13 S.args.tape.now (S.args.base + 2)
 
-number-in-requires : tie.Need-number-in-requires
+number-in-requires : tie.Need-number_in-p-requires
 number-in-requires c κs = let S = c.before.before.before.before.before in (omega (arith, S.requires.0), S.requires.1.0, S.requires.2)
 
-open-row-requires : tie.Need-open-row-requires
+open-row-requires : tie.Need-open_row-requires
 open-row-requires c κs = search rules
 
-add-lay-slots : tie.Need-overflow-add-lay-slots
+add-lay-slots : tie.Need-overflow_add-base
 add-lay-slots c = omega (arith, c.before.before.before.before.before.before.before.before.before.before.requires.0)
 
-mul-lay-slots : tie.Need-overflow-mul-lay-slots
+mul-lay-slots : tie.Need-overflow_mul-r
 mul-lay-slots c = search rules
 
-add-lay-slots-2 : tie.Need-overflow-add-lay-slots-2
+add-lay-slots-2 : tie.Need-overflow_add-r
 add-lay-slots-2 c = search rules
 
-lay-slots-requires : tie.Need-lay-slots-requires
+lay-slots-requires : tie.Need-lay_slots-m-requires
 lay-slots-requires c κs =
     let S = c.before.before.before.before.before.before.before.before.before.before.before.before in
     let W = S.requires.3 in (
@@ -47,31 +47,31 @@ lay-slots-requires c κs =
       omega (arith, S.requires.4, c.before.before.before.before.open_row.auto.0),
     )
 
-mul-lay-ws : tie.Need-overflow-mul-lay-ws
+mul-lay-ws : tie.Need-overflow_mul-r-2
 mul-lay-ws c =
     let start = c.before.before.before.before.before.before.before.before.before.before.before.before.before.before.before.before.before.before.before in
     omega (arith, start.requires.4, start.well-formed)
 
-add-lay-ws : tie.Need-overflow-add-lay-ws
+add-lay-ws : tie.Need-overflow_add-r-2
 add-lay-ws c =
     let start = c.before.before.before.before.before.before.before.before.before.before.before.before.before.before.before.before.before.before.before in
     omega (arith, start.requires.4, start.well-formed)
 
-lay-ws-requires : tie.Need-lay-ws-requires
+lay-ws-requires : tie.Need-lay_ws-requires
 lay-ws-requires c κs =
     let at-lay-slots = c.before.before.before.before.before.before in
     let S = c.before.before.before.before.before.before.before.before.before.before.before.before.before.before.before.before.before.before.before in (
       S.requires.3,
       λ es L. (
-        room_behind (others S) (concat (ws_by es)) (reroom (medication_values (first S) (others S) (ws_by es)) (S.requires.5 es L).1) at-lay-slots.lay-slots.ensures,
-        omega (arith, (S.requires.5 es L).0, S.requires.4, c.before.before.before.before.before.before.before.before.before.before.before.open_row.auto.0, at-lay-slots.lay-slots.auto.1.1.1.1.1.1.1.0),
+        room_behind (others S) (concat (ws_by es)) (reroom (medication_values (first S) (others S) (ws_by es)) (S.requires.5 es L).1) at-lay-slots.lay_slots-m.ensures,
+        omega (arith, (S.requires.5 es L).0, S.requires.4, c.before.before.before.before.before.before.before.before.before.before.before.open_row.auto.0, at-lay-slots.lay_slots-m.auto.1.1.1.1.1.1.1.0),
       ),
     )
 
-same_length : tie.Need-same-length
+same_length : tie.Need-shape_of-text
 same_length c = search rules
 
-same-length-2 : tie.Need-same-length-2
+same-length-2 : tie.Need-shape_of-rows
 same-length-2 c = search rules
 
 returns : tie.Need-returns
@@ -80,10 +80,10 @@ returns c = λ es L.
     let d = ws_twice _ S.args.side.now _ _ _ es L in
     let r = S.requires.5 es L in
     medication_laid (first S) (others S) (ws_by es) S.args.r (omega (arith, d, r.0)) (values_long S.args.page.now S.args.side.now 13 S.args.tape.now (S.args.base + 2))
-    c.before.before.before.before.before.before.before.before.before.before.before.before.before.before.before.before.before.before.number_in.ensures c.before.before.before.before.before.before.before.before.before.before.before.before.before.before.before.before.open_row.ensures S.requires.4 r.1 c.before.before.before.before.before.before.before.before.before.before.before.lay-slots.ensures (c.before.before.before.before.lay-ws.ensures es L)
+    c.before.before.before.before.before.before.before.before.before.before.before.before.before.before.before.before.before.before.number_in-p.ensures c.before.before.before.before.before.before.before.before.before.before.before.before.before.before.before.before.open_row.ensures S.requires.4 r.1 c.before.before.before.before.before.before.before.before.before.before.before.lay_slots-m.ensures (c.before.before.before.before.lay_ws.ensures es L)
 
-pub lay-medication-spec : {M : Type 1} → statement M
-lay-medication-spec =
+pub lay_medication_spec : {M : Type 1} → statement M
+lay_medication_spec =
     tie.close
     (tie.spec
     number-in-requires

@@ -14,52 +14,52 @@ use Rattle.page.proofs.content.lay_plain.Tie as tie
 use borrow.Author.Rules.{rules}
 
 -- all fields are laid
-all : (c : tie.After-count-of) → values_at c.before.before.before.before.before.before.before.args.page.now c.before.before.before.before.before.before.before.args.side.now (count_of (kind_at c.before.before.before.before.before.before.before.args.kind)) c.before.before.before.before.before.before.before.args.tape.now c.before.before.before.before.before.before.before.args.base
-    ≡ values_at c.before.before.before.before.before.before.before.args.page.now c.before.before.before.before.before.before.before.args.side.now c.count_of.result c.before.before.before.before.before.before.before.args.tape.now c.before.before.before.before.before.before.before.args.base
-all c = ap (λ (n : ℕ). values_at c.before.before.before.before.before.before.before.args.page.now c.before.before.before.before.before.before.before.args.side.now n c.before.before.before.before.before.before.before.args.tape.now c.before.before.before.before.before.before.before.args.base) (sym c.count_of.ensures.0)
+all : (c : tie.After-count_of-count) → values_at c.before.before.before.before.before.before.before.args.page.now c.before.before.before.before.before.before.before.args.side.now (count_of (kind_at c.before.before.before.before.before.before.before.args.kind)) c.before.before.before.before.before.before.before.args.tape.now c.before.before.before.before.before.before.before.args.base
+    ≡ values_at c.before.before.before.before.before.before.before.args.page.now c.before.before.before.before.before.before.before.args.side.now c.count_of-count.result c.before.before.before.before.before.before.before.args.tape.now c.before.before.before.before.before.before.before.args.base
+all c = ap (λ (n : ℕ). values_at c.before.before.before.before.before.before.before.args.page.now c.before.before.before.before.before.before.before.args.side.now n c.before.before.before.before.before.before.before.args.tape.now c.before.before.before.before.before.before.before.args.base) (sym c.count_of-count.ensures.0)
 
-row-kind-requires : tie.Need-row-kind-requires
+row-kind-requires : tie.Need-row_kind-k-requires
 row-kind-requires c κs = search rules
 
-count-of-requires : tie.Need-count-of-requires
+count-of-requires : tie.Need-count_of-count-requires
 count-of-requires c κs = search rules
 
-open-row-requires : tie.Need-open-row-requires
+open-row-requires : tie.Need-open_row-requires
 open-row-requires c κs = search rules
 
-mul-lay-slots : tie.Need-overflow-mul-lay-slots
+mul-lay-slots : tie.Need-overflow_mul-r
 mul-lay-slots c = search rules
 
-add-lay-slots : tie.Need-overflow-add-lay-slots
+add-lay-slots : tie.Need-overflow_add-r
 add-lay-slots c = search rules
 
-lay-slots-requires : tie.Need-lay-slots-requires
+lay-slots-requires : tie.Need-lay_slots-requires
 lay-slots-requires c κs =
     let at-count-of = c.before.before.before.before.before.before in
     let S = c.before.before.before.before.before.before.before.before.before.before.before.before.before in
     let k = count_small S.args.kind S.requires.0 in
-    let e = at-count-of.count_of.ensures.0 in (
+    let e = at-count-of.count_of-count.ensures.0 in (
       omega (arith, S.requires.2, e),
       subst (λ (n : ℕ). Spans S.args.page.now (length S.args.side.now) n S.args.tape.now S.args.base) (sym e) S.requires.3,
       reroom (all at-count-of) (reroom (plain_values S.args.kind S.requires.0 S.requires.1 _) S.requires.4),
       omega (arith, e, k, S.requires.5, c.before.before.before.before.open_row.auto.0),
     )
 
-same_length : tie.Need-same-length
+same_length : tie.Need-shape_of-text
 same_length c = search rules
 
-same-length-2 : tie.Need-same-length-2
+same-length-2 : tie.Need-shape_of-rows
 same-length-2 c = search rules
 
 returns : tie.Need-returns
 returns c =
     let S = c.before.before.before.before.before.before.before.before.before.before.before.before.before.before.before.before.before.before in
     let k = count_small S.args.kind S.requires.0 in
-    plain_laid S.args.kind S.requires.0 S.requires.1 _ S.args.r c.before.before.before.before.before.before.before.before.before.before.before.before.row-kind.ensures c.before.before.before.before.before.before.before.before.before.open_row.ensures
-    (relay (sym (all c.before.before.before.before.before.before.before.before.before.before.before)) c.before.before.before.before.lay-slots.ensures) S.requires.5 (omega (arith, k, values_long S.args.page.now S.args.side.now (count_of (kind_at S.args.kind)) S.args.tape.now S.args.base))
+    plain_laid S.args.kind S.requires.0 S.requires.1 _ S.args.r c.before.before.before.before.before.before.before.before.before.before.before.before.row_kind-k.ensures c.before.before.before.before.before.before.before.before.before.open_row.ensures
+    (relay (sym (all c.before.before.before.before.before.before.before.before.before.before.before)) c.before.before.before.before.lay_slots.ensures) S.requires.5 (omega (arith, k, values_long S.args.page.now S.args.side.now (count_of (kind_at S.args.kind)) S.args.tape.now S.args.base))
 
-pub lay-plain-spec : {M : Type 1} → statement M
-lay-plain-spec =
+pub lay_plain_spec : {M : Type 1} → statement M
+lay_plain_spec =
     tie.close
     (tie.spec
     row-kind-requires

@@ -13,48 +13,48 @@ use borrow.Author.Rules.{rules}
 room : (c : tie.Start) → (c.args.n + length c.args.v.now ≤ length c.args.text.now) × (c.args.n + length c.args.v.now ≤ 12600)
 room c = room_one _ _ _ c.requires.0
 
-lay-requires : tie.Need-lay-requires
+lay-requires : tie.Need-lay-e-requires
 lay-requires c κs = (room c.before.before.before.before).0
 
-sub-len : tie.Need-overflow-sub-len
+sub-len : tie.Need-overflow_sub-len
 sub-len c = search rules
 
-cast-len : tie.Need-overflow-cast-len
-cast-len c = omega (arith, c.before.before.lay.ensures.0, (room c.before.before.before.before.before.before.before).1)
+cast-len : tie.Need-overflow_cast-len
+cast-len c = omega (arith, c.before.before.lay-e.ensures.0, (room c.before.before.before.before.before.before.before).1)
 
-start-of-requires : tie.Need-start-of-requires
+start-of-requires : tie.Need-start_of-start-requires
 start-of-requires c κs = omega (arith, (room c.before.before.before.before.before.before.before).1)
 
-mul-numbers : tie.Need-overflow-mul-numbers
+mul-numbers : tie.Need-offset_bounds-numbers-at
 mul-numbers c = search rules
 
-slice-write-numbers : tie.Need-slice-write-numbers
+slice-write-numbers : tie.Need-bounds-numbers-at
 slice-write-numbers c = search rules
 
-add-numbers : tie.Need-overflow-add-numbers
+add-numbers : tie.Need-overflow_add-numbers
 add-numbers c = search rules
 
-mul-numbers-2 : tie.Need-overflow-mul-numbers-2
+mul-numbers-2 : tie.Need-offset_bounds-numbers-at-2
 mul-numbers-2 c = search rules
 
-slice-write-numbers-2 : tie.Need-slice-write-numbers-2
+slice-write-numbers-2 : tie.Need-bounds-numbers-at-2
 slice-write-numbers-2 c = simp length-set (omega (arith, c.before.before.before.before.before.before.before.before.requires.1))
 
-same_length : tie.Need-same-length
+same_length : tie.Need-shape_of-text
 same_length c = search rules
 
-same-length-2 : tie.Need-same-length-2
+same-length-2 : tie.Need-shape_of-numbers
 same-length-2 c = search rules
 
 returns : tie.Need-returns
 returns c =
     let S = c.before.before.before.before.before.before.before.before in
     let L = c.before.before.before in
-    one_laid S.args.v.now _ _ S.args.n L.lay.result (L.lay.result - S.args.n) c.start_of.result _ S.args.at
-    L.lay.ensures.0 L.lay.ensures.1 (omega (arith, L.lay.ensures.0)) c.start_of.ensures S.requires.1
+    one_laid S.args.v.now _ _ S.args.n L.lay-e.result (L.lay-e.result - S.args.n) c.start_of-start.result _ S.args.at
+    L.lay-e.ensures.0 L.lay-e.ensures.1 (omega (arith, L.lay-e.ensures.0)) c.start_of-start.ensures S.requires.1
 
-pub lay-one-spec : {M : Type 1} → statement M
-lay-one-spec =
+pub lay_one_spec : {M : Type 1} → statement M
+lay_one_spec =
     tie.close
     (tie.spec
     lay-requires

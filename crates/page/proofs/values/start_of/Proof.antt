@@ -5,14 +5,14 @@ use Rattle.page.proofs.values.start_of.Statement.{statement}
 use Rattle.page.proofs.values.start_of.Tie as tie
 use borrow.Author.Rules.{rules}
 
-returns : tie.Need-returns
-returns c = rw (eq-eqb _ 0 c.if1.true)
+returns : tie.Need-returns-then-len-eq0
+returns c = rw (eq-eqb _ 0 c.if-len-eq0.true)
 
-cast-result : tie.Need-overflow-cast-result
+cast-result : tie.Need-overflow_cast-result
 cast-result c = search rules
 
-returns-2 : tie.Need-returns-2
-returns-2 c = rw (ne_eqb _ 0 c.if1.false)
+returns-2 : tie.Need-returns
+returns-2 c = rw (ne_eqb _ 0 c.if-len-eq0.false)
 
-pub start-of-spec : {M : Type 1} → statement M
-start-of-spec = tie.close (tie.spec returns cast-result returns-2)
+pub start_of_spec : {M : Type 1} → statement M
+start_of_spec = tie.close (tie.spec returns cast-result returns-2)

@@ -21,5 +21,5 @@ enough numbers = at (leb 12288 numbers) refl
 returns : tie.Need-returns
 returns c = enough c.args.numbers
 
-pub rows-fit-spec : {M : Type 1} → statement M
-rows-fit-spec = tie.close (tie.spec returns)
+pub rows_fit_spec : {M : Type 1} → statement M
+rows_fit_spec = tie.close (tie.spec returns)

@@ -14,65 +14,65 @@ use Rattle.quick.proofs.fits.tag_fits.Statement.{statement}
 use Rattle.quick.proofs.fits.tag_fits.Tie as tie
 
 -- where the call began, and that no excluded pair stands in the tag
-module _ (c : tie.Else1) where
+module _ (c : tie.Else-clashes) where
   abbrev entry : tie.Start
   entry = c.before.before.before.before.before
 
   apart : clash_at (kind_at entry.args.kind) entry.args.tape.now entry.args.base ≡ false
-  apart = sym c.before.clashes.ensures ∙ c.if1.false
+  apart = sym c.before.clashes.ensures ∙ c.if-clashes.false
 
 clashes-requires : tie.Need-clashes-requires
 clashes-requires c κs =
     let S = c.before.before.before in
     (S.requires.0, omega (arith, S.requires.1, count_is (kind_at S.args.kind)))
 
-returns : tie.Need-returns
+returns : tie.Need-returns-then-clashes
 returns c = λ e. no (sym e)
 
-plan-fits-requires : tie.Need-plan-fits-requires
+plan-fits-requires : tie.Need-plan_fits-requires
 plan-fits-requires c κs =
     let S = entry c.before in
-    let n = count_by S.args.kind 1 6 c.if2.true counts.0 in
+    let n = count_by S.args.kind 1 6 c.if-kind-eq-MP.true counts.0 in
     (omega (arith, S.pre.1, n), S.pre.2, subst (λ x. Spans S.args.page.now (length S.args.side.now) x S.args.tape.now S.args.base) n S.pre.3)
 
-returns-2 : tie.Need-returns-2
-returns-2 c = λ e. fits_at _ 1 c.before.if2.true (fits_numbered.0 (c.plan-fits.ensures e))
+returns-2 : tie.Need-returns-then-kind-eq-MP
+returns-2 c = λ e. fits_at _ 1 c.before.if-kind-eq-MP.true (fits_numbered.0 (c.plan_fits.ensures e))
 
-person-fits-requires : tie.Need-person-fits-requires
+person-fits-requires : tie.Need-person_fits-requires
 person-fits-requires c κs =
     let S = entry c.before.before in
-    let n = count_by S.args.kind 2 8 c.if3.true counts.1 in
+    let n = count_by S.args.kind 2 8 c.if-kind-eq-P.true counts.1 in
     (omega (arith, S.pre.1, n), S.pre.2)
 
-returns-3 : tie.Need-returns-3
-returns-3 c = λ e. fits_at _ 2 c.before.if3.true (fits_numbered.1 (fits_p (sym c.person-fits.ensures ∙ e)))
+returns-3 : tie.Need-returns-then-kind-eq-P
+returns-3 c = λ e. fits_at _ 2 c.before.if-kind-eq-P.true (fits_numbered.1 (fits_p (sym c.person_fits.ensures ∙ e)))
 
-author-fits-requires : tie.Need-author-fits-requires
+author-fits-requires : tie.Need-author_fits-requires
 author-fits-requires c κs =
     let S = entry c.before.before.before in
-    let n = count_by S.args.kind 3 10 c.if4.true counts.2 in
+    let n = count_by S.args.kind 3 10 c.if-kind-eq-A.true counts.2 in
     (omega (arith, S.pre.1, n), S.pre.2)
 
-returns-4 : tie.Need-returns-4
+returns-4 : tie.Need-returns-then-kind-eq-A
 returns-4 c = λ e.
     let E = c.before.before.before.before in
     let S = entry E in
-    let k = c.before.if4.true in
-    fits_at _ 3 k (fits_numbered.2 (subst (λ x. clash_at (kind_at x) S.args.tape.now S.args.base ≡ false) k (apart E)) (sym c.author-fits.ensures ∙ e))
+    let k = c.before.if-kind-eq-A.true in
+    fits_at _ 3 k (fits_numbered.2 (subst (λ x. clash_at (kind_at x) S.args.tape.now S.args.base ≡ false) k (apart E)) (sym c.author_fits.ensures ∙ e))
 
-is-there-requires : tie.Need-is-there-requires
+is-there-requires : tie.Need-is_there-requires
 is-there-requires c κs =
     let S = entry c.before.before.before.before in
-    (omega (arith, S.pre.1, one_field S.args.kind c.if5.true S.pre.0), S.pre.2)
+    (omega (arith, S.pre.1, one_field S.args.kind c.if-kind-gt-M.true S.pre.0), S.pre.2)
 
-returns-5 : tie.Need-returns-5
-returns-5 c = λ e. let S = entry c.before.before.before.before.before in fits_last _ c.before.if5.true S.pre.0 (sym c.is-there.ensures ∙ e)
+returns-5 : tie.Need-returns-then-kind-gt-M
+returns-5 c = λ e. let S = entry c.before.before.before.before.before in fits_last _ c.before.if-kind-gt-M.true S.pre.0 (sym c.is_there.ensures ∙ e)
 
-returns-6 : tie.Need-returns-6
-returns-6 c = λ e. fits_rest _ (apart c.before.before.before.before) c.before.before.before.if2.false c.before.before.if3.false c.before.if4.false c.if5.false
+returns-6 : tie.Need-returns
+returns-6 c = λ e. fits_rest _ (apart c.before.before.before.before) c.before.before.before.if-kind-eq-MP.false c.before.before.if-kind-eq-P.false c.before.if-kind-eq-A.false c.if-kind-gt-M.false
 
-pub tag-fits-spec : {M : Type 1} → statement M
-tag-fits-spec =
+pub tag_fits_spec : {M : Type 1} → statement M
+tag_fits_spec =
     tie.close
     (tie.spec
     clashes-requires

@@ -12,16 +12,16 @@ use borrow.Author.Rules.{rules}
 use Rattle.quick.proofs.names.count_in.Statement.{statement}
 use Rattle.quick.proofs.names.count_in.Tie as tie
 
-mul-result : tie.Need-overflow-mul-result
+mul-result : tie.Need-overflow_mul-result
 mul-result c = search rules
 
-element-copy-out-result : tie.Need-element-copy-out-result
+element-copy-out-result : tie.Need-bounds-letters-kind
 element-copy-out-result c = search rules
 
-cast-result : tie.Need-overflow-cast-result
+cast-result : tie.Need-overflow_cast-result-2
 cast-result c = let S = c.before in rw S.requires.1 (entry_low _)
 
-sub-result : tie.Need-overflow-sub-result
+sub-result : tie.Need-overflow_sub-result
 sub-result c = let S = c.before in let e : get_or S.args.letters.now (S.args.kind * 128) 0 ≡ 128 + count_of (kind_at S.args.kind) = rw S.requires.1 (count_entry S.args.kind S.requires.0) in omega (arith, e)
 
 returns : tie.Need-returns
@@ -31,6 +31,6 @@ returns c =
     let w = part_within S.args.kind S.requires.0 in
     (omega (arith, e), omega (arith, e, w))
 
-pub count-in-spec : {M : Type 1} → statement M
-count-in-spec =
+pub count_in_spec : {M : Type 1} → statement M
+count_in_spec =
     tie.close (tie.spec mul-result element-copy-out-result cast-result sub-result returns)

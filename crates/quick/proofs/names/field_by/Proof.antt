@@ -10,14 +10,14 @@ use Rattle.fields.proofs.FoundLaws.{field_found}
 use Rattle.quick.proofs.names.field_by.Statement.{statement}
 use Rattle.quick.proofs.names.field_by.Tie as tie
 
-first-in-requires : tie.Need-first-in-requires
+first-in-requires : tie.Need-first_in-first-requires
 first-in-requires c κs = search rules
 
-count-in-requires : tie.Need-count-in-requires
+count-in-requires : tie.Need-count_in-count-requires
 count-in-requires c κs = search rules
 
-add-find : tie.Need-overflow-add-find
-add-find c = let S = c.before.before.before.before in omega (arith, c.count-in.ensures.0, c.before.first-in.ensures, part_within S.args.kind S.requires.1)
+add-find : tie.Need-overflow_add-first
+add-find c = let S = c.before.before.before.before in omega (arith, c.count_in-count.ensures.0, c.before.first_in-first.ensures, part_within S.args.kind S.requires.1)
 
 key-requires : tie.Need-key-requires
 key-requires c κs = search rules
@@ -28,7 +28,7 @@ find-requires c κs =
     let S = C.before.before.before.before in
     let within = part_within S.args.kind S.requires.1 in
     let long : length S.args.keys.now ≡ 52 = ap length S.requires.0 ∙ key_length in
-    (omega arith, omega (arith, C.count-in.ensures.0, C.before.first-in.ensures))
+    (omega arith, omega (arith, C.count_in-count.ensures.0, C.before.first_in-first.ensures))
 
 returns : tie.Need-returns
 returns c =
@@ -36,12 +36,12 @@ returns c =
     let S = C.before.before.before.before in
     let a = S.args in (
       c.find.ensures.0
-          ∙ field_found a.kind a.name.now a.keys.now _ _ _ S.requires.1 (λ i. (C.before.before.shared-slice-known2.given i).fits) S.requires.0
-          C.before.first-in.ensures C.count-in.ensures.0 c.before.key.ensures,
-      omega (arith, c.find.ensures.1, C.count-in.ensures.0),
+          ∙ field_found a.kind a.name.now a.keys.now _ _ _ S.requires.1 (λ i. (C.before.before.shared_slice_known-2-1.given i).fits) S.requires.0
+          C.before.first_in-first.ensures C.count_in-count.ensures.0 c.before.key.ensures,
+      omega (arith, c.find.ensures.1, C.count_in-count.ensures.0),
     )
 
-pub field-by-spec : {M : Type 1} → statement M
-field-by-spec =
+pub field_by_spec : {M : Type 1} → statement M
+field_by_spec =
     tie.close
     (tie.spec first-in-requires count-in-requires add-find key-requires find-requires returns)

@@ -11,19 +11,19 @@ use borrow.Author.Rules.{rules}
 use Rattle.quick.proofs.names.first_in.Statement.{statement}
 use Rattle.quick.proofs.names.first_in.Tie as tie
 
-mul-result : tie.Need-overflow-mul-result
+mul-result : tie.Need-overflow_mul-result
 mul-result c = search rules
 
-add-result : tie.Need-overflow-add-result
+add-result : tie.Need-overflow_add-result
 add-result c = search rules
 
-element-copy-out-result : tie.Need-element-copy-out-result
+element-copy-out-result : tie.Need-bounds-letters-kind
 element-copy-out-result c = search rules
 
-cast-result : tie.Need-overflow-cast-result
+cast-result : tie.Need-overflow_cast-result-2
 cast-result c = let S = c.before in rw S.requires.1 (entry_low _)
 
-sub-result : tie.Need-overflow-sub-result
+sub-result : tie.Need-overflow_sub-result
 sub-result c = let S = c.before in let e : get_or S.args.letters.now (S.args.kind * 128 + 1) 0 ≡ 128 + first_of (kind_at S.args.kind) = rw S.requires.1 (first_entry S.args.kind S.requires.0) in omega (arith, e)
 
 returns : tie.Need-returns
@@ -32,7 +32,7 @@ returns c =
     let e : get_or S.args.letters.now (S.args.kind * 128 + 1) 0 ≡ 128 + first_of (kind_at S.args.kind) = rw S.requires.1 (first_entry S.args.kind S.requires.0) in
     omega (arith, e)
 
-pub first-in-spec : {M : Type 1} → statement M
-first-in-spec =
+pub first_in_spec : {M : Type 1} → statement M
+first_in_spec =
     tie.close
     (tie.spec mul-result add-result element-copy-out-result cast-result sub-result returns)

@@ -11,57 +11,57 @@ use borrow.Author.Rules.{rules}
 use Rattle.quick.proofs.names.letter_place.Statement.{statement}
 use Rattle.quick.proofs.names.letter_place.Tie as tie
 
-add-byte-or : tie.Need-overflow-add-byte-or
+add-byte-or : tie.Need-overflow_add-a
 add-byte-or c = search rules
 
-byte-or-requires : tie.Need-byte-or-requires
+byte-or-requires : tie.Need-byte_or-requires
 byte-or-requires c κs = search rules
 
-returns : tie.Need-returns
+returns : tie.Need-returns-then-byte_or-ne61
 returns c = λ h. absurd (omega (arith, h))
 
-add-byte-or-2 : tie.Need-overflow-add-byte-or-2
+add-byte-or-2 : tie.Need-overflow_add-a-2
 add-byte-or-2 c = search rules
 
-byte-or-requires-2 : tie.Need-byte-or-requires-2
+byte-or-requires-2 : tie.Need-byte_or-requires-2
 byte-or-requires-2 c κs = search rules
 
-is-quote-requires : tie.Need-is-quote-requires
+is-quote-requires : tie.Need-is_quote-requires
 is-quote-requires c κs = search rules
 
-byte-or-requires-3 : tie.Need-byte-or-requires-3
+byte-or-requires-3 : tie.Need-byte_or-b-requires
 byte-or-requires-3 c κs = search rules
 
-returns-2 : tie.Need-returns-2
+returns-2 : tie.Need-returns-then-b-gt127
 returns-2 c = λ h. absurd (omega (arith, h))
 
-mul-result : tie.Need-overflow-mul-result
+mul-result : tie.Need-overflow_mul-result
 mul-result c = omega (arith, c.before.before.before.before.before.before.before.before.requires.2)
 
-cast-result : tie.Need-overflow-cast-result
+cast-result : tie.Need-overflow_cast-result-then-is_quote
 cast-result c = search rules
 
-add-result : tie.Need-overflow-add-result
-add-result c = omega (arith, c.before.before.before.before.before.before.before.before.requires.2, c.if3.false)
+add-result : tie.Need-overflow_add-result
+add-result c = omega (arith, c.before.before.before.before.before.before.before.before.requires.2, c.if-b-gt127.false)
 
-element-copy-out-result : tie.Need-element-copy-out-result
+element-copy-out-result : tie.Need-bounds-letters-kind
 element-copy-out-result c = omega (arith, c.before.before.before.before.before.before.before.before.requires.2, c.if3.false)
 
-cast-result-2 : tie.Need-overflow-cast-result-2
+cast-result-2 : tie.Need-overflow_cast-result-then-is_quote-2
 cast-result-2 c = let S = c.before.before.before.before.before.before.before.before.before in rw S.requires.3 (entry_low _)
 
-returns-3 : tie.Need-returns-3
+returns-3 : tie.Need-returns-then-is_quote
 returns-3 c = λ h.
     let S = c.before.before.before.before.before.before.before.before.before in
     let b = c.before.before.byte-or3.ensures in
     letter_found S.args.page.now S.args.kind S.args.a c.before.before.byte-or3.result S.args.letters.now S.requires.2 S.requires.3 b
     (sym c.before.before.before.before.before.before.before.byte_or.ensures ∙ c.before.before.before.before.before.before.if1.false) (rw c.before.before.before.before.before.byte-or2.ensures at (c.before.before.before.before.is-quote.ensures c.before.before.before.if2.true)) (omega (arith, c.before.if3.false)) h
 
-returns-4 : tie.Need-returns-4
+returns-4 : tie.Need-returns
 returns-4 c = λ h. absurd (omega (arith, h))
 
-pub letter-place-spec : {M : Type 1} → statement M
-letter-place-spec =
+pub letter_place_spec : {M : Type 1} → statement M
+letter_place_spec =
     tie.close
     (tie.spec
     add-byte-or

@@ -9,5 +9,5 @@ returns : tie.Need-returns
 unfolding letter_table
 returns c = refl
 
-pub letter-table-spec : {M : Type 1} → statement M
-letter-table-spec = tie.close (tie.spec returns)
+pub letter_table_spec : {M : Type 1} → statement M
+letter_table_spec = tie.close (tie.spec returns)

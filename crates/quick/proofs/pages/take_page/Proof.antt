@@ -12,153 +12,153 @@ use Rattle.quick.proofs.MadeLaws.{on_here, on_step, on_close, on_done, makes_fro
 use Rattle.quick.proofs.pages.take_page.Statement.{statement}
 use Rattle.quick.proofs.pages.take_page.Tie as tie
 
-abbrev invariant-loop : tie.invariant-loop
+abbrev invariant-loop : tie.invariant-loop-st
 invariant-loop page keys letters odd limits tape₀ first side₀ used st₀ i₀ f₀ m₀ tape side st i f m = On page tape₀ tape side₀ side used m first f i st
 
-abbrev decreases-loop : tie.decreases-loop
+abbrev decreases-loop : tie.decreases-loop-st
 decreases-loop page keys letters odd limits tape₀ first side₀ used st₀ i₀ f₀ m₀ tape side st i f m = length page - i
 
 -- the `<` of a tag
-less : (c : tie.Else3 invariant-loop decreases-loop) → c.before.before.spaces-end.result < length c.before.before.before.before.before.before.before.before.before.before.before.before.before.before.before.before.before.before.before.args.page.now
-less c = let b = c.before.byte_or.ensures in in_it c.before.before.before.before.before.before.before.before.before.before.before.before.before.before.before.before.before.before.before.args.page.now c.before.before.spaces-end.result (λ z. omega (arith, b, z, c.if3.false))
+less : (c : tie.Else-byte_or-ne60 invariant-loop decreases-loop) → c.before.before.spaces_end-s.result < length c.before.before.before.before.before.before.before.before.before.before.before.before.before.before.before.before.before.before.before.args.page.now
+less c = let b = c.before.byte_or.ensures in in_it c.before.before.before.before.before.before.before.before.before.before.before.before.before.before.before.before.before.before.before.args.page.now c.before.before.spaces_end-s.result (λ z. omega (arith, b, z, c.if-byte_or-ne60.false))
 
 -- the byte behind it, where it is a slash
-slash : (c : tie.Then4 invariant-loop decreases-loop) → c.before.before.before.before.spaces-end.result + 1 < length c.before.before.before.before.before.before.before.before.before.before.before.before.before.before.before.before.before.before.before.before.before.args.page.now
-slash c = let b = c.before.byte-or2.ensures in in_it c.before.before.before.before.before.before.before.before.before.before.before.before.before.before.before.before.before.before.before.before.before.args.page.now (c.before.before.before.before.spaces-end.result + 1) (λ z. omega (arith, b, z, c.if4.true))
+slash : (c : tie.Then-byte_or-eq47 invariant-loop decreases-loop) → c.before.before.before.before.spaces_end-s.result + 1 < length c.before.before.before.before.before.before.before.before.before.before.before.before.before.before.before.before.before.before.before.before.before.args.page.now
+slash c = let b = c.before.byte_or-in-loop-st.ensures in in_it c.before.before.before.before.before.before.before.before.before.before.before.before.before.before.before.before.before.before.before.before.before.args.page.now (c.before.before.before.before.spaces_end-s.result + 1) (λ z. omega (arith, b, z, c.if-byte_or-eq47.true))
 
-take-root-requires : tie.Need-take-root-requires invariant-loop decreases-loop
+take-root-requires : tie.Need-take_root-root-requires invariant-loop decreases-loop
 take-root-requires c κs = let S = c.before.before.before.before.before in (S.requires.0, S.requires.1, S.requires.2, S.requires.3, S.requires.4, S.requires.5, S.requires.6, S.requires.7)
 
-same_length : tie.Need-same-length invariant-loop decreases-loop
-same_length c = c.before.before.before.before.before.before.take-root.auto.1.1.1.1.1.0
+same_length : tie.Need-shape_of-tape-then-root-eq0 invariant-loop decreases-loop
+same_length c = c.before.before.before.before.before.before.take_root-root.auto.1.1.1.1.1.0
 
-same-length-2 : tie.Need-same-length-2 invariant-loop decreases-loop
-same-length-2 c = c.before.before.before.before.before.before.take-root.auto.1.1.1.1.1.1.1.0
+same-length-2 : tie.Need-shape_of-side-then-root-eq0 invariant-loop decreases-loop
+same-length-2 c = c.before.before.before.before.before.before.take_root-root.auto.1.1.1.1.1.1.1.0
 
-returns : tie.Need-returns invariant-loop decreases-loop
+returns : tie.Need-returns-then-root-eq0 invariant-loop decreases-loop
 returns c = λ n. absurd (n refl)
 
-loop-holds : tie.Need-loop-init invariant-loop decreases-loop
-loop-holds c = on_here (c.before.before.before.before.before.before.before.take-root.ensures c.before.if1.false)
+loop-holds : tie.Need-loop-st-init invariant-loop decreases-loop
+loop-holds c = on_here (c.before.before.before.before.before.before.before.take_root-root.ensures c.before.if-root-eq0.false)
 
-spaces-end-requires : tie.Need-spaces-end-requires invariant-loop decreases-loop
+spaces-end-requires : tie.Need-spaces_end-s-requires invariant-loop decreases-loop
 spaces-end-requires c κs = search rules
 
-byte-or-requires : tie.Need-byte-or-requires invariant-loop decreases-loop
+byte-or-requires : tie.Need-byte_or-requires invariant-loop decreases-loop
 byte-or-requires c κs = search rules
 
-same-length-3 : tie.Need-same-length-3 invariant-loop decreases-loop
-same-length-3 c = c.before.before.before.before.before.loop.invariant.long.0 ∙ c.before.before.before.before.before.before.before.before.before.before.before.before.before.take-root.auto.1.1.1.1.1.0
+same-length-3 : tie.Need-shape_of-tape-then-byte_or-ne60 invariant-loop decreases-loop
+same-length-3 c = c.before.before.before.before.before.loop-st.invariant.long.0 ∙ c.before.before.before.before.before.before.before.before.before.before.before.before.before.take_root-root.auto.1.1.1.1.1.0
 
-same-length-4 : tie.Need-same-length-4 invariant-loop decreases-loop
-same-length-4 c = c.before.before.before.before.before.loop.invariant.long.1 ∙ c.before.before.before.before.before.before.before.before.before.before.before.before.before.take-root.auto.1.1.1.1.1.1.1.0
+same-length-4 : tie.Need-shape_of-side-then-byte_or-ne60 invariant-loop decreases-loop
+same-length-4 c = c.before.before.before.before.before.loop-st.invariant.long.1 ∙ c.before.before.before.before.before.before.before.before.before.before.before.before.before.take_root-root.auto.1.1.1.1.1.1.1.0
 
-returns-2 : tie.Need-returns-2 invariant-loop decreases-loop
+returns-2 : tie.Need-returns-then-byte_or-ne60 invariant-loop decreases-loop
 returns-2 c = λ n. absurd (n refl)
 
-add-byte-or : tie.Need-overflow-add-byte-or invariant-loop decreases-loop
+add-byte-or : tie.Need-overflow_add-s invariant-loop decreases-loop
 add-byte-or c = omega (arith, less c, c.before.before.before.before.before.before.before.before.before.before.before.before.before.before.before.before.before.before.before.requires.1)
 
-byte-or-requires-2 : tie.Need-byte-or-requires-2 invariant-loop decreases-loop
+byte-or-requires-2 : tie.Need-byte_or-requires-in-loop-st invariant-loop decreases-loop
 byte-or-requires-2 c κs = search rules
 
-end-behind-requires : tie.Need-end-behind-requires invariant-loop decreases-loop
-end-behind-requires c κs = (slash c, c.before.before.before.before.before.before.before.before.before.before.before.before.before.before.before.before.before.before.before.before.before.requires.1, c.before.before.before.before.before.if2.true)
+end-behind-requires : tie.Need-end_behind-r-requires invariant-loop decreases-loop
+end-behind-requires c κs = (slash c, c.before.before.before.before.before.before.before.before.before.before.before.before.before.before.before.before.before.before.before.before.before.requires.1, c.before.before.before.before.before.loop-st-test.true)
 
-same-length-5 : tie.Need-same-length-5 invariant-loop decreases-loop
-same-length-5 c = c.before.before.before.before.before.before.before.before.before.loop.invariant.long.0 ∙ c.before.before.before.before.before.before.before.before.before.before.before.before.before.before.before.before.before.take-root.auto.1.1.1.1.1.0
+same-length-5 : tie.Need-shape_of-tape-then-r-eq0 invariant-loop decreases-loop
+same-length-5 c = c.before.before.before.before.before.before.before.before.before.loop-st.invariant.long.0 ∙ c.before.before.before.before.before.before.before.before.before.before.before.before.before.before.before.before.before.take_root-root.auto.1.1.1.1.1.0
 
-same-length-6 : tie.Need-same-length-6 invariant-loop decreases-loop
-same-length-6 c = c.before.before.before.before.before.before.before.before.before.loop.invariant.long.1 ∙ c.before.before.before.before.before.before.before.before.before.before.before.before.before.before.before.before.before.take-root.auto.1.1.1.1.1.1.1.0
+same-length-6 : tie.Need-shape_of-side-then-r-eq0 invariant-loop decreases-loop
+same-length-6 c = c.before.before.before.before.before.before.before.before.before.loop-st.invariant.long.1 ∙ c.before.before.before.before.before.before.before.before.before.before.before.before.before.before.before.before.before.take_root-root.auto.1.1.1.1.1.1.1.0
 
-returns-3 : tie.Need-returns-3 invariant-loop decreases-loop
+returns-3 : tie.Need-returns-then-r-eq0 invariant-loop decreases-loop
 returns-3 c = λ n. absurd (n refl)
 
-close-requires : tie.Need-close-requires invariant-loop decreases-loop
-close-requires c κs = c.before.before.before.before.before.before.before.before.before.loop.invariant.sound
+close-requires : tie.Need-close-st-requires invariant-loop decreases-loop
+close-requires c κs = c.before.before.before.before.before.before.before.before.before.loop-st.invariant.sound
 
-loop-less : tie.Need-loop-smaller invariant-loop decreases-loop
+loop-less : tie.Need-loop-st-smaller-then-byte_or-eq47 invariant-loop decreases-loop
 loop-less c =
-    let E = c.before.before.end-behind.ensures c.before.if5.false in
-    let R = c.before.before.before.before.before.before.before.spaces-end.ensures in
+    let E = c.before.before.end_behind-r.ensures c.before.if-r-eq0.false in
+    let R = c.before.before.before.before.before.before.before.spaces_end-s.ensures in
     omega (arith, E.behind, E.within.0, E.within.1, E.name.within.0, R.1)
 
-loop-again : tie.Need-loop-preserved invariant-loop decreases-loop
+loop-again : tie.Need-loop-st-preserved-then-byte_or-eq47 invariant-loop decreases-loop
 loop-again c =
-    let E = c.before.before.end-behind.ensures c.before.if5.false in
-    let R = c.before.before.before.before.before.before.before.spaces-end.ensures in
-    on_close c.before.before.before.before.before.before.before.before.before.before.loop.invariant R.0 R.1 (less (c.before.before.before.before.before)) (sym c.before.before.before.before.before.before.byte_or.ensures ∙ c.before.before.before.before.before.if3.false) (slash (c.before.before.before)) (sym c.before.before.before.before.byte-or2.ensures ∙ c.before.before.before.if4.true) E
-    c.close.ensures.0 c.close.ensures.1
+    let E = c.before.before.end_behind-r.ensures c.before.if-r-eq0.false in
+    let R = c.before.before.before.before.before.before.before.spaces_end-s.ensures in
+    on_close c.before.before.before.before.before.before.before.before.before.before.loop-st.invariant R.0 R.1 (less (c.before.before.before.before.before)) (sym c.before.before.before.before.before.before.byte_or.ensures ∙ c.before.before.before.before.before.if-byte_or-ne60.false) (slash (c.before.before.before)) (sym c.before.before.before.before.byte_or-in-loop-st.ensures ∙ c.before.before.before.if-byte_or-eq47.true) E
+    c.close-st.ensures.0 c.close-st.ensures.1
 
-take-start-requires : tie.Need-take-start-requires invariant-loop decreases-loop
+take-start-requires : tie.Need-take_start-step-requires invariant-loop decreases-loop
 take-start-requires c κs =
     let S = c.before.before.before.before.before.before.before.before.before.before.before.before.before.before.before.before.before.before.before.before.before.before.before in
-    let H = c.before.before.before.before.before.before.before.before.before.loop.invariant in
-    let R = c.before.before.before.before.before.before.spaces-end.ensures in
-    let lt = c.before.before.before.before.before.before.before.before.before.before.before.before.before.before.before.before.before.take-root.auto.1.1.1.1.1.0 in
-    let ls = c.before.before.before.before.before.before.before.before.before.before.before.before.before.before.before.before.before.take-root.auto.1.1.1.1.1.1.1.0 in
-    (R.0, R.1, less (c.before.before.before.before), sym c.before.before.before.before.before.byte_or.ensures ∙ c.before.before.before.before.if3.false, S.requires.1, H.sound, S.requires.2, S.requires.3, H.room.1, omega (arith, S.requires.5, H.long.0, lt), H.room.0, omega (arith, S.requires.7, H.long.1, ls))
+    let H = c.before.before.before.before.before.before.before.before.before.loop-st.invariant in
+    let R = c.before.before.before.before.before.before.spaces_end-s.ensures in
+    let lt = c.before.before.before.before.before.before.before.before.before.before.before.before.before.before.before.before.before.take_root-root.auto.1.1.1.1.1.0 in
+    let ls = c.before.before.before.before.before.before.before.before.before.before.before.before.before.before.before.before.before.take_root-root.auto.1.1.1.1.1.1.1.0 in
+    (R.0, R.1, less (c.before.before.before.before), sym c.before.before.before.before.before.byte_or.ensures ∙ c.before.before.before.before.if-byte_or-ne60.false, S.requires.1, H.sound, S.requires.2, S.requires.3, H.room.1, omega (arith, S.requires.5, H.long.0, lt), H.room.0, omega (arith, S.requires.7, H.long.1, ls))
 
-same-length-7 : tie.Need-same-length-7 invariant-loop decreases-loop
-same-length-7 c = c.before.before.before.before.before.before.take-start.auto.1.1.1.1.1.1.1.1.0 ∙ c.before.before.before.before.before.before.before.before.before.before.before.before.before.before.before.before.loop.invariant.long.0 ∙ c.before.before.before.before.before.before.before.before.before.before.before.before.before.before.before.before.before.before.before.before.before.before.before.before.take-root.auto.1.1.1.1.1.0
+same-length-7 : tie.Need-shape_of-tape-then-step-eq0 invariant-loop decreases-loop
+same-length-7 c = c.before.before.before.before.before.before.take_start-step.auto.1.1.1.1.1.1.1.1.0 ∙ c.before.before.before.before.before.before.before.before.before.before.before.before.before.before.before.before.loop-st.invariant.long.0 ∙ c.before.before.before.before.before.before.before.before.before.before.before.before.before.before.before.before.before.before.before.before.before.before.before.before.take_root-root.auto.1.1.1.1.1.0
 
-same-length-8 : tie.Need-same-length-8 invariant-loop decreases-loop
-same-length-8 c = c.before.before.before.before.before.before.take-start.auto.1.1.1.1.1.1.1.1.1.1.0 ∙ c.before.before.before.before.before.before.before.before.before.before.before.before.before.before.before.before.loop.invariant.long.1 ∙ c.before.before.before.before.before.before.before.before.before.before.before.before.before.before.before.before.before.before.before.before.before.before.before.before.take-root.auto.1.1.1.1.1.1.1.0
+same-length-8 : tie.Need-shape_of-side-then-step-eq0 invariant-loop decreases-loop
+same-length-8 c = c.before.before.before.before.before.before.take_start-step.auto.1.1.1.1.1.1.1.1.1.1.0 ∙ c.before.before.before.before.before.before.before.before.before.before.before.before.before.before.before.before.loop-st.invariant.long.1 ∙ c.before.before.before.before.before.before.before.before.before.before.before.before.before.before.before.before.before.before.before.before.before.before.before.before.take_root-root.auto.1.1.1.1.1.1.1.0
 
-returns-4 : tie.Need-returns-4 invariant-loop decreases-loop
+returns-4 : tie.Need-returns-then-step-eq0 invariant-loop decreases-loop
 returns-4 c = λ n. absurd (n refl)
 
-loop-less-2 : tie.Need-loop-smaller-2 invariant-loop decreases-loop
+loop-less-2 : tie.Need-loop-st-smaller invariant-loop decreases-loop
 loop-less-2 c =
-    let X = c.before.before.before.before.before.before.before.take-start.ensures c.before.if6.false in
+    let X = c.before.before.before.before.before.before.before.take_start-step.ensures c.before.if-step-eq0.false in
     omega (arith, X.within.0, X.within.1)
 
-loop-again-2 : tie.Need-loop-preserved-2 invariant-loop decreases-loop
+loop-again-2 : tie.Need-loop-st-preserved invariant-loop decreases-loop
 loop-again-2 c =
-    let X = c.before.before.before.before.before.before.before.take-start.ensures c.before.if6.false in
-    on_step c.before.before.before.before.before.before.before.before.before.before.before.before.before.before.before.before.before.loop.invariant X c.before.before.before.before.before.before.before.take-start.auto.1.1.1.1.1.1.1.1.0 c.before.before.before.before.before.before.before.take-start.auto.1.1.1.1.1.1.1.1.1.1.0
+    let X = c.before.before.before.before.before.before.before.take_start-step.ensures c.before.if-step-eq0.false in
+    on_step c.before.before.before.before.before.before.before.before.before.before.before.before.before.before.before.before.before.loop-st.invariant X c.before.before.before.before.before.before.before.take_start-step.auto.1.1.1.1.1.1.1.1.0 c.before.before.before.before.before.before.before.take_start-step.auto.1.1.1.1.1.1.1.1.1.1.0
 
-spaces-end-requires-2 : tie.Need-spaces-end-requires-2 invariant-loop decreases-loop
+spaces-end-requires-2 : tie.Need-spaces_end-requires invariant-loop decreases-loop
 spaces-end-requires-2 c κs = search rules
 
-same-length-9 : tie.Need-same-length-9 invariant-loop decreases-loop
-same-length-9 c = c.before.before.before.before.loop.invariant.long.0 ∙ c.before.before.before.before.before.before.before.before.before.before.before.before.take-root.auto.1.1.1.1.1.0
+same-length-9 : tie.Need-shape_of-tape-then-spaces_end-page invariant-loop decreases-loop
+same-length-9 c = c.before.before.before.before.loop-st.invariant.long.0 ∙ c.before.before.before.before.before.before.before.before.before.before.before.before.take_root-root.auto.1.1.1.1.1.0
 
-same-length-10 : tie.Need-same-length-10 invariant-loop decreases-loop
-same-length-10 c = c.before.before.before.before.loop.invariant.long.1 ∙ c.before.before.before.before.before.before.before.before.before.before.before.before.take-root.auto.1.1.1.1.1.1.1.0
+same-length-10 : tie.Need-shape_of-side-then-spaces_end-page invariant-loop decreases-loop
+same-length-10 c = c.before.before.before.before.loop-st.invariant.long.1 ∙ c.before.before.before.before.before.before.before.before.before.before.before.before.take_root-root.auto.1.1.1.1.1.1.1.0
 
-returns-5 : tie.Need-returns-5 invariant-loop decreases-loop
+returns-5 : tie.Need-returns-then-spaces_end-page invariant-loop decreases-loop
 returns-5 c = λ n. absurd (n refl)
 
-finish-requires : tie.Need-finish-requires invariant-loop decreases-loop
+finish-requires : tie.Need-finish-worst-requires invariant-loop decreases-loop
 finish-requires c κs = search rules
 
-same-length-11 : tie.Need-same-length-11 invariant-loop decreases-loop
-same-length-11 c = c.before.before.before.before.before.before.before.loop.invariant.long.0 ∙ c.before.before.before.before.before.before.before.before.before.before.before.before.before.before.before.take-root.auto.1.1.1.1.1.0
+same-length-11 : tie.Need-shape_of-tape-then-worst-eq-NO_FAULT invariant-loop decreases-loop
+same-length-11 c = c.before.before.before.before.before.before.before.loop-st.invariant.long.0 ∙ c.before.before.before.before.before.before.before.before.before.before.before.before.before.before.before.take_root-root.auto.1.1.1.1.1.0
 
-same-length-12 : tie.Need-same-length-12 invariant-loop decreases-loop
-same-length-12 c = c.before.before.before.before.before.before.before.loop.invariant.long.1 ∙ c.before.before.before.before.before.before.before.before.before.before.before.before.before.before.before.take-root.auto.1.1.1.1.1.1.1.0
+same-length-12 : tie.Need-shape_of-side-then-worst-eq-NO_FAULT invariant-loop decreases-loop
+same-length-12 c = c.before.before.before.before.before.before.before.loop-st.invariant.long.1 ∙ c.before.before.before.before.before.before.before.before.before.before.before.before.before.before.before.take_root-root.auto.1.1.1.1.1.1.1.0
 
-returns-6 : tie.Need-returns-6 invariant-loop decreases-loop
+returns-6 : tie.Need-returns-then-worst-eq-NO_FAULT invariant-loop decreases-loop
 returns-6 c = λ n.
-    let root = c.before.before.before.before.before.before.before.before.before.before.before.before.before.before.before.take-root.ensures c.before.before.before.before.before.before.before.before.before.if1.false in
-    let H = c.before.before.before.before.before.before.before.loop.invariant in (
+    let root = c.before.before.before.before.before.before.before.before.before.before.before.before.before.before.before.take_root-root.ensures c.before.before.before.before.before.before.before.before.before.if-root-eq0.false in
+    let H = c.before.before.before.before.before.before.before.loop-st.invariant in (
       makes_from root.before root.grown.same
-          (on_done c.before.before.before.before.before.before.before.loop.invariant c.before.before.before.before.before.if2.false c.before.before.before.before.spaces-end2.ensures.0 c.before.before.before.if7.false (ap (λ x. x.no) (sym c.before.before.finish.ensures) ∙ c.if8.true) c.before.before.before.before.before.before.before.before.before.before.before.before.before.before.before.before.before.before.before.before.before.requires.0 c.before.before.before.before.before.before.before.before.before.before.before.before.before.before.before.before.before.before.before.before.before.requires.1),
+          (on_done c.before.before.before.before.before.before.before.loop-st.invariant c.before.before.before.before.before.loop-st-test.false c.before.before.before.before.spaces_end.ensures.0 c.before.before.before.if-spaces_end-page.false (ap (λ x. x.no) (sym c.before.before.finish-worst.ensures) ∙ c.if-worst-eq-NO_FAULT.true) c.before.before.before.before.before.before.before.before.before.before.before.before.before.before.before.before.before.before.before.before.before.requires.0 c.before.before.before.before.before.before.before.before.before.before.before.before.before.before.before.before.before.before.before.before.before.requires.1),
       omega (arith, H.near, H.within),
     )
 
-same-length-13 : tie.Need-same-length-13 invariant-loop decreases-loop
-same-length-13 c = c.before.before.before.before.before.before.before.loop.invariant.long.0 ∙ c.before.before.before.before.before.before.before.before.before.before.before.before.before.before.before.take-root.auto.1.1.1.1.1.0
+same-length-13 : tie.Need-shape_of-tape invariant-loop decreases-loop
+same-length-13 c = c.before.before.before.before.before.before.before.loop-st.invariant.long.0 ∙ c.before.before.before.before.before.before.before.before.before.before.before.before.before.before.before.take_root-root.auto.1.1.1.1.1.0
 
-same-length-14 : tie.Need-same-length-14 invariant-loop decreases-loop
-same-length-14 c = c.before.before.before.before.before.before.before.loop.invariant.long.1 ∙ c.before.before.before.before.before.before.before.before.before.before.before.before.before.before.before.take-root.auto.1.1.1.1.1.1.1.0
+same-length-14 : tie.Need-shape_of-side invariant-loop decreases-loop
+same-length-14 c = c.before.before.before.before.before.before.before.loop-st.invariant.long.1 ∙ c.before.before.before.before.before.before.before.before.before.before.before.before.before.before.before.take_root-root.auto.1.1.1.1.1.1.1.0
 
-returns-7 : tie.Need-returns-7 invariant-loop decreases-loop
+returns-7 : tie.Need-returns invariant-loop decreases-loop
 returns-7 c = λ n. absurd (n refl)
 
-pub take-page-spec : {M : Type 1} → statement M
-take-page-spec =
+pub take_page_spec : {M : Type 1} → statement M
+take_page_spec =
     tie.close
     (tie.spec
     invariant-loop

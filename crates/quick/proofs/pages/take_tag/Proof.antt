@@ -13,43 +13,43 @@ use Rattle.quick.proofs.ElemLaws.{holds_wide, tag_in}
 use Rattle.quick.proofs.pages.take_tag.Statement.{statement}
 use Rattle.quick.proofs.pages.take_tag.Tie as tie
 
-add-base : tie.Need-overflow-add-base
+add-base : tie.Need-overflow_add-base
 add-base c = omega (arith, c.before.before.before.requires.6, c.before.before.before.requires.7)
 
-count-in-requires : tie.Need-count-in-requires
+count-in-requires : tie.Need-count_in-requires
 count-in-requires c κs = let S = c.before.before.before in (S.requires.3, S.requires.4.letters_are)
 
-mul_next : tie.Need-overflow-mul-next
-mul_next c = omega (arith, c.count-in.ensures.1)
+mul_next : tie.Need-overflow_mul-next
+mul_next c = omega (arith, c.count_in.ensures.1)
 
-add-next : tie.Need-overflow-add-next
-add-next c = omega (arith, c.count-in.ensures.1, c.before.before.before.before.requires.6, c.before.before.before.before.requires.7)
+add-next : tie.Need-overflow_add-next
+add-next c = omega (arith, c.count_in.ensures.1, c.before.before.before.before.requires.6, c.before.before.before.before.requires.7)
 
-returns : tie.Need-returns
+returns : tie.Need-returns-then-next-tape
 returns c = λ n. absurd (n refl)
 
-put-header-requires : tie.Need-put-header-requires
+put-header-requires : tie.Need-put_header-requires
 put-header-requires c κs =
     let S = c.before.before.before.before.before.before in
-    (omega (arith, c.before.if1.false), omega (arith, S.requires.0, S.requires.1, S.requires.2), omega (arith, c.before.if1.false, S.requires.7))
+    (omega (arith, c.before.if-next-tape.false), omega (arith, S.requires.0, S.requires.1, S.requires.2), omega (arith, c.before.if-next-tape.false, S.requires.7))
 
-take-attrs-requires : tie.Need-take-attrs-requires
+take-attrs-requires : tie.Need-take_attrs-taken-requires
 take-attrs-requires c κs =
     let S = c.before.before.before.before.before.before.before.before.before.before.before in
-    let long = c.before.before.before.before.put-header.auto.0 in
-    let n = c.before.before.before.before.before.before.before.count-in.ensures.0 in
-    (S.requires.1, S.requires.2, S.requires.3, S.requires.4, S.requires.5, omega (arith, c.before.before.before.before.before.before.if1.false, long, n, so_many (kind_at S.args.kind)), omega (arith, S.requires.7, long), S.requires.8, S.requires.9)
+    let long = c.before.before.before.before.put_header.auto.0 in
+    let n = c.before.before.before.before.before.before.before.count_in.ensures.0 in
+    (S.requires.1, S.requires.2, S.requires.3, S.requires.4, S.requires.5, omega (arith, c.before.before.before.before.before.before.if-next-tape.false, long, n, so_many (kind_at S.args.kind)), omega (arith, S.requires.7, long), S.requires.8, S.requires.9)
 
-same_length : tie.Need-same-length
-same_length c = c.before.before.before.before.before.before.take-attrs.auto.1.1.1.1.1.1.1.0 ∙ c.before.before.before.before.before.before.before.before.before.before.before.put-header.auto.0
+same_length : tie.Need-shape_of-tape-then-taken-eq0
+same_length c = c.before.before.before.before.before.before.take_attrs-taken.auto.1.1.1.1.1.1.1.0 ∙ c.before.before.before.before.before.before.before.before.before.before.before.put_header.auto.0
 
-same-length-2 : tie.Need-same-length-2
-same-length-2 c = c.before.before.before.before.before.before.take-attrs.auto.1.1.1.1.1.1.1.1.1.0
+same-length-2 : tie.Need-shape_of-side-then-taken-eq0
+same-length-2 c = c.before.before.before.before.before.before.take_attrs-taken.auto.1.1.1.1.1.1.1.1.1.0
 
-returns-2 : tie.Need-returns-2
+returns-2 : tie.Need-returns-then-taken-eq0
 returns-2 c = λ n. absurd (n refl)
 
-tag-fits-requires : tie.Need-tag-fits-requires
+tag-fits-requires : tie.Need-tag_fits-requires
 tag-fits-requires c κs =
     let S = c.before.before.before.before.before.before.before.before.before.before.before.before.before.before.before.before.before.before.before.before in
     let I = c.before.before.before.before.before.before.before.before.take-attrs.ensures c.before.before.if2.false in
@@ -57,20 +57,20 @@ tag-fits-requires c κs =
     let n = c.before.before.before.before.before.before.before.before.before.before.before.before.before.before.before.before.count-in.ensures.0 in
     (S.requires.3, omega (arith, c.before.before.before.before.before.before.before.before.before.before.before.before.before.before.before.if1.false, long, n, so_many (kind_at S.args.kind)), omega (arith, S.requires.7, long), (holds_wide I.room I.holds).lie)
 
-needs-w-requires : tie.Need-needs-w-requires
+needs-w-requires : tie.Need-needs_w-needs-requires
 needs-w-requires c κs =
     let S = c.before.before.before.before.before.before.before.before.before.before.before.before.before.before.before.before.before.before.before.before.before.before.before in
     let long = c.before.before.before.before.before.before.before.before.before.before.before.take-attrs.auto.1.1.1.1.1.1.1.0 ∙ c.before.before.before.before.before.before.before.before.before.before.before.before.before.before.before.before.put-header.auto.0 in
     let n = c.before.before.before.before.before.before.before.before.before.before.before.before.before.before.before.before.before.before.before.count-in.ensures.0 in
     (S.requires.3, omega (arith, c.before.before.before.before.before.before.before.before.before.before.before.before.before.before.before.before.before.before.if1.false, long, n, so_many (kind_at S.args.kind)), omega (arith, S.requires.7, long))
 
-same-length-3 : tie.Need-same-length-3
+same-length-3 : tie.Need-shape_of-tape-then-tag_fits
 same-length-3 c = c.before.before.before.before.before.before.before.before.before.before.before.before.take-attrs.auto.1.1.1.1.1.1.1.0 ∙ c.before.before.before.before.before.before.before.before.before.before.before.before.before.before.before.before.before.put-header.auto.0
 
-same-length-4 : tie.Need-same-length-4
+same-length-4 : tie.Need-shape_of-side-then-tag_fits
 same-length-4 c = c.before.before.before.before.before.before.before.before.before.before.before.before.take-attrs.auto.1.1.1.1.1.1.1.1.1.0
 
-returns-3 : tie.Need-returns-3
+returns-3 : tie.Need-returns-then-tag_fits
 returns-3 c = λ n.
     let S = c.before.before.before.before.before.before.before.before.before.before.before.before.before.before.before.before.before.before.before.before.before.before.before.before in
     let k = kind_at S.args.kind in
@@ -78,19 +78,19 @@ returns-3 c = λ n.
     let long = c.before.before.before.before.before.before.before.before.before.before.before.before.take-attrs.auto.1.1.1.1.1.1.1.0 ∙ c.before.before.before.before.before.before.before.before.before.before.before.before.before.before.before.before.before.put-header.auto.0 in
     tag_in S.args.page.now k S.args.f S.args.p S.args.from _ S.args.tape.now _ _ _ _ _ _ _ S.args.kind (sym (code_back S.args.kind S.requires.3))
     c.before.before.before.before.before.before.before.before.before.before.before.before.before.before.before.before.before.put-header.ensures (omega (arith, c.before.before.before.before.before.before.before.before.before.before.before.before.before.before.before.before.before.before.before.before.count-in.ensures.0, so_many k)) c.before.before.before.before.before.before.before.before.before.before.before.before.before.before.before.before.before.before.before.if1.false long _ I
-    (c.before.before.before.tag-fits.ensures c.before.before.if3.true) (c.needs-w.ensures S.args.page.now _)
+    (c.before.before.before.tag-fits.ensures c.before.before.if3.true) (c.needs_w-needs.ensures S.args.page.now _)
 
-same-length-5 : tie.Need-same-length-5
+same-length-5 : tie.Need-shape_of-tape
 same-length-5 c = c.before.before.before.before.before.before.before.before.before.before.take-attrs.auto.1.1.1.1.1.1.1.0 ∙ c.before.before.before.before.before.before.before.before.before.before.before.before.before.before.before.put-header.auto.0
 
-same-length-6 : tie.Need-same-length-6
+same-length-6 : tie.Need-shape_of-side
 same-length-6 c = c.before.before.before.before.before.before.before.before.before.before.take-attrs.auto.1.1.1.1.1.1.1.1.1.0
 
-returns-4 : tie.Need-returns-4
+returns-4 : tie.Need-returns
 returns-4 c = λ n. absurd (n refl)
 
-pub take-tag-spec : {M : Type 1} → statement M
-take-tag-spec =
+pub take_tag_spec : {M : Type 1} → statement M
+take_tag_spec =
     tie.close
     (tie.spec
     add-base

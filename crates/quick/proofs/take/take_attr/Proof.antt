@@ -14,73 +14,73 @@ use Rattle.quick.proofs.SlotLaws.{counted, small_span, valued_by}
 use Rattle.quick.proofs.take.take_attr.Statement.{statement}
 use Rattle.quick.proofs.take.take_attr.Tie as tie
 
-take-name-requires : tie.Need-take-name-requires
+take-name-requires : tie.Need-take_name-named-requires
 take-name-requires c κs = let S = c.before.before.before in (S.requires.0, S.requires.1, S.requires.2, S.requires.3)
 
-returns : tie.Need-returns
+returns : tie.Need-returns-then-named-eq0
 returns c = λ n. absurd (n refl)
 
-mul-s : tie.Need-overflow-mul-s
-mul-s c = let N = c.before.before.before.take-name.ensures c.before.if1.false in omega (arith, N.known, c.before.before.before.before.before.before.before.requires.5, c.before.before.before.before.before.before.before.requires.6)
+mul-s : tie.Need-overflow_mul-s
+mul-s c = let N = c.before.before.before.take_name-named.ensures c.before.if-named-eq0.false in omega (arith, N.known, c.before.before.before.before.before.before.before.requires.5, c.before.before.before.before.before.before.before.requires.6)
 
-add-s : tie.Need-overflow-add-s
-add-s c = let N = c.before.before.before.take-name.ensures c.before.if1.false in omega (arith, N.known, c.before.before.before.before.before.before.before.requires.5, c.before.before.before.before.before.before.before.requires.6)
+add-s : tie.Need-overflow_add-s
+add-s c = let N = c.before.before.before.take_name-named.ensures c.before.if-named-eq0.false in omega (arith, N.known, c.before.before.before.before.before.before.before.requires.5, c.before.before.before.before.before.before.before.requires.6)
 
-is-free-requires : tie.Need-is-free-requires
+is-free-requires : tie.Need-is_free-requires
 is-free-requires c κs = let N = c.before.before.before.before.take-name.ensures c.before.before.if1.false in omega (arith, N.known, c.before.before.before.before.before.before.before.before.requires.5)
 
-same_length : tie.Need-same-length
+same_length : tie.Need-shape_of-tape-then-not-is_free
 same_length c = search rules
 
-returns-2 : tie.Need-returns-2
+returns-2 : tie.Need-returns-then-not-is_free
 returns-2 c = λ n. absurd (n refl)
 
-first-in-requires : tie.Need-first-in-requires
+first-in-requires : tie.Need-first_in-requires
 first-in-requires c κs = let S = c.before.before.before.before.before.before.before.before.before.before in (S.requires.2, S.requires.3.letters_are)
 
-add-id : tie.Need-overflow-add-id
+add-id : tie.Need-overflow_add-id
 add-id c =
     let N = c.before.before.before.before.before.before.before.before.take-name.ensures c.before.before.before.before.before.before.if1.false in
     let k = kind_at c.before.before.before.before.before.before.before.before.before.before.before.before.args.kind in
     let h = counted k _ N.known in
-    omega (arith, h, part_within c.before.before.before.before.before.before.before.before.before.before.before.before.args.kind c.before.before.before.before.before.before.before.before.before.before.before.before.requires.2, c.before.first-in.ensures)
+    omega (arith, h, part_within c.before.before.before.before.before.before.before.before.before.before.before.before.args.kind c.before.before.before.before.before.before.before.before.before.before.before.before.requires.2, c.before.first_in.ensures)
 
-take-value-requires : tie.Need-take-value-requires
+take-value-requires : tie.Need-take_value-judged-requires
 take-value-requires c κs =
     let S = c.before.before.before.before.before.before.before.before.before.before.before.before.before in
     let N = c.before.before.before.before.before.before.before.before.before.take-name.ensures c.before.before.before.before.before.before.before.if1.false in
     let h = counted (kind_at S.args.kind) _ N.known in
-    (omega (arith, N.within.0), N.within.1, S.requires.1, N.quoted, omega (arith, h, part_within S.args.kind S.requires.2, c.before.before.first-in.ensures), S.requires.4, S.requires.7, S.requires.8)
+    (omega (arith, N.within.0), N.within.1, S.requires.1, N.quoted, omega (arith, h, part_within S.args.kind S.requires.2, c.before.before.first_in.ensures), S.requires.4, S.requires.7, S.requires.8)
 
-same-length-2 : tie.Need-same-length-2
+same-length-2 : tie.Need-shape_of-tape-then-judged-eq0
 same-length-2 c = search rules
 
-same-length-3 : tie.Need-same-length-3
+same-length-3 : tie.Need-shape_of-side-then-judged-eq0
 same-length-3 c = search rules
 
-returns-3 : tie.Need-returns-3
+returns-3 : tie.Need-returns-then-judged-eq0
 returns-3 c = λ n. absurd (n refl)
 
 put-requires : tie.Need-put-requires
 put-requires c κs =
     let S = c.before.before.before.before.before.before.before.before.before.before.before.before.before.before.before.before.before.before.before in
     let N = c.before.before.before.before.before.before.before.before.before.before.before.before.before.before.before.take-name.ensures c.before.before.before.before.before.before.before.before.before.before.before.before.before.if1.false in
-    let val = (c.before.before.before.before.before.take-value.ensures c.before.if3.false).0 in
+    let val = (c.before.before.before.before.before.take_value-judged.ensures c.before.if-judged-eq0.false).0 in
     let sm = small_span S.args.page.now _ _ _ S.requires.1 val.span in
     (omega (arith, N.known, S.requires.5), sm.0, sm.1)
 
-add-t17 : tie.Need-overflow-add-t17
+add-t17 : tie.Need-overflow_add-result
 add-t17 c =
-    let val = (c.before.before.before.before.before.before.before.before.before.take-value.ensures c.before.before.before.before.before.if3.false).0 in
+    let val = (c.before.before.before.before.before.before.before.before.before.take_value-judged.ensures c.before.before.before.before.before.if-judged-eq0.false).0 in
     omega (arith, val.raw.within.1, c.before.before.before.before.before.before.before.before.before.before.before.before.before.before.before.before.before.before.before.before.before.before.before.requires.1)
 
-same-length-4 : tie.Need-same-length-4
+same-length-4 : tie.Need-shape_of-tape
 same-length-4 c = search rules
 
-same-length-5 : tie.Need-same-length-5
+same-length-5 : tie.Need-shape_of-side
 same-length-5 c = search rules
 
-returns-4 : tie.Need-returns-4
+returns-4 : tie.Need-returns
 returns-4 c = λ n.
     let S = c.before.before.before.before.before.before.before.before.before.before.before.before.before.before.before.before.before.before.before.before.before.before.before in
     let k = kind_at S.args.kind in
@@ -89,12 +89,12 @@ returns-4 c = λ n.
     let j = c.before.before.before.before.before.before.before.before.before.before.before.before.before.before.before.before.before.before.before.take-name.result.field in
     let v = c.before.before.before.before.before.before.before.before.before.before.before.before.before.before.before.before.before.before.before.take-name.result.at in
     let q = c.before.before.before.before.before.before.before.before.before.before.before.before.before.before.before.before.before.before.before.take-name.result.quote in
-    let J = c.before.before.before.before.before.before.before.before.before.take-value.result in
-    let E = c.before.before.before.before.before.before.before.before.before.take-value.ensures c.before.before.before.before.before.if3.false in
+    let J = c.before.before.before.before.before.before.before.before.before.take_value-judged.result in
+    let E = c.before.before.before.before.before.before.before.before.before.take_value-judged.ensures c.before.before.before.before.before.if-judged-eq0.false in
     let val = E.0 in
     let f : j ≡ place_in N.name (fields_of k) = N.field in
-    let free = eqb-true _ 0 (sym c.before.before.before.before.before.before.before.before.before.before.before.before.before.before.is_free.ensures ∙ not-false _ c.before.before.before.before.before.before.before.before.before.before.before.before.before.if2.false) in
-    let id : c.before.before.before.before.before.before.before.before.before.before.before.before.first-in.result + j ≡ first_of k + place_in N.name (fields_of k) = rw (c.before.before.before.before.before.before.before.before.before.before.before.before.first-in.ensures, f) in
+    let free = eqb-true _ 0 (sym c.before.before.before.before.before.before.before.before.before.before.before.before.before.before.is_free.ensures ∙ not-false _ c.before.before.before.before.before.before.before.before.before.before.before.before.before.if-not-is_free.false) in
+    let id : c.before.before.before.before.before.before.before.before.before.before.before.before.first_in.result + j ≡ first_of k + place_in N.name (fields_of k) = rw (c.before.before.before.before.before.before.before.before.before.before.before.before.first_in.ensures, f) in
     record {
       name = N.name;
       raw = slice v J.quote w;
@@ -114,8 +114,8 @@ returns-4 c = λ n.
       grown = E.1;
     }
 
-pub take-attr-spec : {M : Type 1} → statement M
-take-attr-spec =
+pub take_attr_spec : {M : Type 1} → statement M
+take_attr_spec =
     tie.close
     (tie.spec
     take-name-requires

@@ -12,32 +12,32 @@ use borrow.Author.Rules.{rules}
 use Rattle.quick.proofs.take.take_name.Statement.{statement}
 use Rattle.quick.proofs.take.take_name.Tie as tie
 
-letter-place-requires : tie.Need-letter-place-requires
+letter-place-requires : tie.Need-letter_place-j-requires
 letter-place-requires c κs = let S = c.before in (S.requires.0, S.requires.1, S.requires.2, S.requires.3.letters_are)
 
-add-t8 : tie.Need-overflow-add-t8
+add-t8 : tie.Need-overflow_add-result
 add-t8 c = omega (arith, c.before.before.before.requires.0, c.before.before.before.requires.1)
 
-add-byte-or : tie.Need-overflow-add-byte-or
+add-byte-or : tie.Need-overflow_add-a
 add-byte-or c = omega (arith, c.before.before.before.requires.0, c.before.before.before.requires.1)
 
-byte-or-requires : tie.Need-byte-or-requires
+byte-or-requires : tie.Need-byte_or-requires
 byte-or-requires c κs = search rules
 
-returns : tie.Need-returns
+returns : tie.Need-returns-then-j-lt-NO_PLACE
 returns c = λ n.
     let S = c.before.before.before.before in
-    let L = letter_named (c.before.before.letter-place.ensures c.before.if1.true) in
-    subst (λ q. NamedAt S.args.page.now (kind_at S.args.kind) S.args.a c.before.before.letter-place.result (S.args.a + 3) q) (sym c.byte_or.ensures) L
+    let L = letter_named (c.before.before.letter_place-j.ensures c.before.if-j-lt-NO_PLACE.true) in
+    subst (λ q. NamedAt S.args.page.now (kind_at S.args.kind) S.args.a c.before.before.letter_place-j.result (S.args.a + 3) q) (sym c.byte_or.ensures) L
 
-any-name-requires : tie.Need-any-name-requires
+any-name-requires : tie.Need-any_name-requires
 any-name-requires c κs = let S = c.before.before.before in (S.requires.0, S.requires.1, S.requires.2, S.requires.3)
 
-returns-2 : tie.Need-returns-2
+returns-2 : tie.Need-returns
 returns-2 c = c.any_name.ensures
 
-pub take-name-spec : {M : Type 1} → statement M
-take-name-spec =
+pub take_name_spec : {M : Type 1} → statement M
+take_name_spec =
     tie.close
     (tie.spec
     letter-place-requires

@@ -6,11 +6,11 @@ use borrow.Author.Tests.{lt-ltb, le-ltb}
 use Rattle.quoted.proofs.coded.shown_as.Statement.{statement}
 use Rattle.quoted.proofs.coded.shown_as.Tie as tie
 
-returns : tie.Need-returns
-returns c = rw (lt-ltb c.before.args.b 32 c.if1.true)
+returns : tie.Need-returns-then-b-lt32
+returns c = rw (lt-ltb c.before.args.b 32 c.if-b-lt32.true)
 
-returns-2 : tie.Need-returns-2
-returns-2 c = rw (le-ltb c.before.args.b 32 c.if1.false)
+returns-2 : tie.Need-returns
+returns-2 c = rw (le-ltb c.before.args.b 32 c.if-b-lt32.false)
 
-pub shown-as-spec : {M : Type 1} → statement M
-shown-as-spec = tie.close (tie.spec returns returns-2)
+pub shown_as_spec : {M : Type 1} → statement M
+shown_as_spec = tie.close (tie.spec returns returns-2)

@@ -6,14 +6,14 @@ use Rattle.paper.proofs.Small.{no, same_eq}
 use Rattle.quoted.proofs.raw.reads.Statement.{statement}
 use Rattle.quoted.proofs.raw.reads.Tie as tie
 
-returns : tie.Need-returns
+returns : tie.Need-returns-then-to-page
 returns c = λ e. no (sym e)
 
 spells-requires : tie.Need-spells-requires
 spells-requires c κs = search rules
 
-returns-2 : tie.Need-returns-2
-returns-2 c = λ e. (c.before.if1.false, same_eq _ _ (sym c.spells.ensures ∙ e))
+returns-2 : tie.Need-returns
+returns-2 c = λ e. (c.before.if-to-page.false, same_eq _ _ (sym c.spells.ensures ∙ e))
 
-pub reads-spec : {M : Type 1} → statement M
-reads-spec = tie.close (tie.spec returns spells-requires returns-2)
+pub reads_spec : {M : Type 1} → statement M
+reads_spec = tie.close (tie.spec returns spells-requires returns-2)

@@ -15,40 +15,40 @@ use borrow.Author.Rules.{rules}
 use Rattle.quoted.proofs.value.is_absent.Statement.{statement}
 use Rattle.quoted.proofs.value.is_absent.Tie as tie
 
-returns : tie.Need-returns
+returns : tie.Need-returns-then-from-to
 returns c =
     let a = c.before.before.args in
-    sym (absent_empty (field_at a.id)) ∙ ap (λ (v : List ℕ). is_empty (settle (field_at a.id) v)) (part_empty a.room.now _ _ c.if1.true)
+    sym (absent_empty (field_at a.id)) ∙ ap (λ (v : List ℕ). is_empty (settle (field_at a.id) v)) (part_empty a.room.now _ _ c.if-from-to.true)
 
-rule-in-requires : tie.Need-rule-in-requires
+rule-in-requires : tie.Need-rule_in-requires
 rule-in-requires c κs = search rules
 
-sub-is-zero : tie.Need-overflow-sub-is-zero
+sub-is-zero : tie.Need-slice_bounds-is_zero-count
 sub-is-zero c = search rules
 
-part-is-zero-start : tie.Need-slice-bounds-is-zero-start
+part-is-zero-start : tie.Need-slice_bounds-is_zero-start
 part-is-zero-start c = search rules
 
-part-is-zero-end : tie.Need-slice-bounds-is-zero-end
+part-is-zero-end : tie.Need-slice_bounds-is_zero-end
 part-is-zero-end c = search rules
 
-is-zero-requires : tie.Need-is-zero-requires
+is-zero-requires : tie.Need-is_zero-requires
 is-zero-requires c κs = search rules
 
-returns-2 : tie.Need-returns-2
+returns-2 : tie.Need-returns
 returns-2 c =
     let S = c.before.before.before.before.before in
     let w = S.args.room.now in
     let f = field_at S.args.id in
     let v = slice S.args.from S.args.to w in
     c.is_zero.ensures
-    ∙ ap (is_zero (rule_at c.before.before.rule-in.result)) (part_is w S.args.from S.args.to)
-    ∙ ap (λ (n : ℕ). is_zero (rule_at n) v) c.before.before.rule-in.ensures
+    ∙ ap (is_zero (rule_at c.before.before.rule_in.result)) (part_is w S.args.from S.args.to)
+    ∙ ap (λ (n : ℕ). is_zero (rule_at n) v) c.before.before.rule_in.ensures
     ∙ ap (λ (r : Rule). is_zero r v) (rule_back f.rule)
-    ∙ absent_zero f v (part_some w _ _ S.requires.0 S.requires.1 c.before.before.before.if1.false)
+    ∙ absent_zero f v (part_some w _ _ S.requires.0 S.requires.1 c.before.before.before.if-from-to.false)
 
-pub is-absent-spec : {M : Type 1} → statement M
-is-absent-spec =
+pub is_absent_spec : {M : Type 1} → statement M
+is_absent_spec =
     tie.close
     (tie.spec
     returns

@@ -12,56 +12,56 @@ use borrow.Author.Rules.{rules}
 use Rattle.quoted.proofs.value.odd_value.Statement.{statement}
 use Rattle.quoted.proofs.value.odd_value.Tie as tie
 
-coded-value-requires : tie.Need-coded-value-requires
+coded-value-requires : tie.Need-coded_value-coded-requires
 coded-value-requires c κs = let S = c.before.before.before in (S.requires.1, S.requires.2, S.requires.5.odd_is, S.requires.3, S.requires.6, S.requires.7)
 
-same_length : tie.Need-same-length
+same_length : tie.Need-shape_of-side-then-coded-eq0
 same_length c = search rules
 
-returns : tie.Need-returns
+returns : tie.Need-returns-then-coded-eq0
 returns c = λ n. absurd (n refl)
 
-is-absent-requires : tie.Need-is-absent-requires
+is-absent-requires : tie.Need-is_absent-requires
 is-absent-requires c κs = let S = c.before.before.before.before.before.before.before.before.before in let C = c.before.before.before.before.before.coded-value.ensures c.before.if1.false in (C.within.0, C.within.1, S.requires.4, S.requires.5.limits_are)
 
-same-length-2 : tie.Need-same-length-2
+same-length-2 : tie.Need-shape_of-side-then-is_absent
 same-length-2 c = search rules
 
-returns-2 : tie.Need-returns-2
+returns-2 : tie.Need-returns-then-is_absent
 returns-2 c = λ n.
     let S = c.before.before.before.before.before.before.before.before.before.before.before in
     let C = c.before.before.before.before.before.before.before.coded-value.ensures c.before.before.before.if1.false in
     let id = S.args.id in
     let long = c.before.before.before.before.before.before.before.coded-value.auto.1.1.1.1.0 in
-    let e = settled_none (field_at id) _ (sym c.before.is-absent.ensures ∙ c.if2.true) in (
+    let e = settled_none (field_at id) _ (sym c.before.is_absent.ensures ∙ c.if-is_absent.true) in (
       none_there S.args.page.now S.args.at S.args.q id _ C.raw S.requires.0 S.requires.2 _ S.args.used (omega (arith, S.requires.6, long)) (e ∙ ap (settle (field_at id)) C.right),
       record { same = C.same; up = omega arith },
       omega (arith, C.raw.within.0),
     )
 
-tildes-in-requires : tie.Need-tildes-in-requires
+tildes-in-requires : tie.Need-tildes_in-requires
 tildes-in-requires c κs = search rules
 
-same-length-3 : tie.Need-same-length-3
+same-length-3 : tie.Need-shape_of-side-then-coded-tildes_in
 same-length-3 c = search rules
 
-returns-3 : tie.Need-returns-3
+returns-3 : tie.Need-returns-then-coded-tildes_in
 returns-3 c = λ n. absurd (n refl)
 
-keeps-text-requires : tie.Need-keeps-text-requires
+keeps-text-requires : tie.Need-keeps_text-requires
 keeps-text-requires c κs =
     let S = c.before.before.before.before.before.before.before.before.before.before.before.before.before.before.before in
     let T = S.requires.5 in
     let C = c.before.before.before.before.before.before.before.before.before.before.before.coded-value.ensures c.before.before.before.before.before.before.before.if1.false in
     (C.within.0, C.within.1, S.requires.4, T.limits_are, C.clean, omega (arith, C.broken, c.before.if3.false, c.before.before.before.tildes-in.ensures))
 
-add-t20 : tie.Need-overflow-add-t20
+add-t20 : tie.Need-overflow_add-result
 add-t20 c = search rules
 
-same-length-4 : tie.Need-same-length-4
+same-length-4 : tie.Need-shape_of-side-then-keeps_text
 same-length-4 c = search rules
 
-returns-4 : tie.Need-returns-4
+returns-4 : tie.Need-returns-then-keeps_text
 returns-4 c = λ n.
     let S = c.before.before.before.before.before.before.before.before.before.before.before.before.before.before.before.before.before in
     let C = c.before.before.before.before.before.before.before.before.before.before.before.before.before.coded-value.ensures c.before.before.before.before.before.before.before.before.before.if1.false in
@@ -73,19 +73,19 @@ returns-4 c = λ n.
     let e = settled_some (field_at id) _ a in (
       in_side S.args.page.now S.args.at S.args.q id _ C.raw S.requires.0 S.requires.2 _ m z
           (not_empty (field_at id) c.before.before.before.before.before.before.before.before.before.before.before.before.before.coded-value.new.1.1.1.1.0 m z C.within.0 a) C.within.1 (omega (arith, S.requires.7, long)) C.right e
-          (c.before.keeps-text.ensures c.if4.true),
+          (c.before.keeps_text.ensures c.if-keeps_text.true),
       record { same = C.same; up = C.within.0 },
       omega (arith, C.short),
     )
 
-same-length-5 : tie.Need-same-length-5
+same-length-5 : tie.Need-shape_of-side
 same-length-5 c = search rules
 
-returns-5 : tie.Need-returns-5
+returns-5 : tie.Need-returns
 returns-5 c = λ n. absurd (n refl)
 
-pub odd-value-spec : {M : Type 1} → statement M
-odd-value-spec =
+pub odd_value_spec : {M : Type 1} → statement M
+odd_value_spec =
     tie.close
     (tie.spec
     coded-value-requires

@@ -11,58 +11,58 @@ use borrow.Author.Rules.{rules}
 fits-at : (s : tie.Start) → PageFits s.args.page.now
 fits-at s = page_good _ _ s.requires
 
-keys-requires : tie.Need-keys-requires
+keys-requires : tie.Need-keys-keys-requires
 keys-requires c κs = search rules
 
-slice-aggregate-lay-page : tie.Need-slice-aggregate-lay-page
+slice-aggregate-lay-page : tie.Need-slice_bounds-lay_page-end
 slice-aggregate-lay-page c = search rules
 
-slice-aggregate-lay-page-2 : tie.Need-slice-aggregate-lay-page-2
+slice-aggregate-lay-page-2 : tie.Need-slice_bounds-lay_page-end-2
 slice-aggregate-lay-page-2 c = search rules
 
-lay-page-requires : tie.Need-lay-page-requires
-lay-page-requires c κs = (c.before.before.before.before.before.requires, c.before.before.before.keys.ensures, omega arith, omega arith, omega arith, omega arith)
+lay-page-requires : tie.Need-lay_page-made-requires
+lay-page-requires c κs = (c.before.before.before.before.before.requires, c.before.before.before.keys-keys.ensures, omega arith, omega arith, omega arith, omega arith)
 
-slice-aggregate-find-head : tie.Need-slice-aggregate-find-head
+slice-aggregate-find-head : tie.Need-slice_bounds-find_head-end
 slice-aggregate-find-head c = search rules
 
-slice-aggregate-find-head-2 : tie.Need-slice-aggregate-find-head-2
+slice-aggregate-find-head-2 : tie.Need-slice_bounds-find_head-end-2
 slice-aggregate-find-head-2 c = search rules
 
-find-head-requires : tie.Need-find-head-requires
+find-head-requires : tie.Need-find_head-h-requires
 find-head-requires c κs =
     let at-lay-page = c.before.before.before.before in
-    made_read at-lay-page.lay-page.ensures.0 (blank_new 4420 (omega arith)) (omega arith) at-lay-page.lay-page.auto.1.1.0
+    made_read at-lay-page.lay_page-made.ensures.0 (blank_new 4420 (omega arith)) (omega arith) at-lay-page.lay_page-made.auto.1.1.0
 
-slice-aggregate-number-of : tie.Need-slice-aggregate-number-of
+slice-aggregate-number-of : tie.Need-slice_bounds-number_of-end
 slice-aggregate-number-of c = search rules
 
-slice-aggregate-number-of-2 : tie.Need-slice-aggregate-number-of-2
+slice-aggregate-number-of-2 : tie.Need-slice_bounds-number_of-end-2
 slice-aggregate-number-of-2 c = search rules
 
-number-of-requires : tie.Need-number-of-requires
+number-of-requires : tie.Need-number_of-no-requires
 number-of-requires c κs = (c.before.before.find-Head.ensures.mp_at, (fits-at c.before.before.before.before.before.before.before.before.before.before.before.before.before).fit)
 
-slice-aggregate-count-said : tie.Need-slice-aggregate-count-said
+slice-aggregate-count-said : tie.Need-slice_bounds-count_said-end
 slice-aggregate-count-said c = search rules
 
-slice-aggregate-count-said-2 : tie.Need-slice-aggregate-count-said-2
+slice-aggregate-count-said-2 : tie.Need-slice_bounds-count_said-end-2
 slice-aggregate-count-said-2 c = search rules
 
-count-said-requires : tie.Need-count-said-requires
+count-said-requires : tie.Need-count_said-of-requires
 count-said-requires c κs = (c.before.before.before.before.before.find-Head.ensures.mp_at, (fits-at c.before.before.before.before.before.before.before.before.before.before.before.before.before.before.before.before).fit)
 
-cast-t27 : tie.Need-overflow-cast-t27
+cast-t27 : tie.Need-overflow_cast-result
 cast-t27 c = omega (arith, c.before.before.before.number_of_lem.ensures, (fits-at c.before.before.before.before.before.before.before.before.before.before.before.before.before.before.before.before.before).no_small)
 
-cast-t28 : tie.Need-overflow-cast-t28
-cast-t28 c = omega (arith, c.count-said.ensures, (fits-at c.before.before.before.before.before.before.before.before.before.before.before.before.before.before.before.before.before).of_small)
+cast-t28 : tie.Need-overflow_cast-result-2
+cast-t28 c = omega (arith, c.count_said-of.ensures, (fits-at c.before.before.before.before.before.before.before.before.before.before.before.before.before.before.before.before.before).of_small)
 
 returns : tie.Need-returns
 returns c = search rules
 
-pub numbers-of-spec : {M : Type 1} → statement M
-numbers-of-spec =
+pub numbers_of_spec : {M : Type 1} → statement M
+numbers_of_spec =
     tie.close
     (tie.spec
     keys-requires

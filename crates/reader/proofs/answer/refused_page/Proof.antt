@@ -15,32 +15,32 @@ as-found n m k i e = rw e
 past : (n k : ℕ) → k ≤ n → (n ≡ k → ⊥) → k + 1 ≤ n
 past n k h ne = omega arith
 
-returns : tie.Need-returns
-returns c = rw (c.match.keys1, c.before.requires.size_place c.match.keys1)
+returns : tie.Need-returns-in-2
+returns c = rw (c.in-2.keys1, c.before.requires.size_place c.in-2.keys1)
 
-returns-2 : tie.Need-returns-2
-returns-2 c = as-found _ 3 _ _ c.match.keys2
+returns-2 : tie.Need-returns-in-3
+returns-2 c = as-found _ 3 _ _ c.in-3.keys2
 
-returns-3 : tie.Need-returns-3
-returns-3 c = as-found _ 4 _ _ c.match.keys3
+returns-3 : tie.Need-returns-in-4
+returns-3 c = as-found _ 4 _ _ c.in-4.keys3
 
-returns-4 : tie.Need-returns-4
-returns-4 c = as-found _ 5 _ _ c.match.keys4
+returns-4 : tie.Need-returns-in-5
+returns-4 c = as-found _ 5 _ _ c.in-5.keys4
 
-returns-5 : tie.Need-returns-5
-returns-5 c = as-found _ 6 _ _ c.match.keys5
+returns-5 : tie.Need-returns-in-6
+returns-5 c = as-found _ 6 _ _ c.in-6.keys5
 
-returns-6 : tie.Need-returns-6
-returns-6 c = as-found _ 7 _ _ c.match.keys6
+returns-6 : tie.Need-returns-in-7
+returns-6 c = as-found _ 7 _ _ c.in-7.keys6
 
-returns-7 : tie.Need-returns-7
+returns-7 : tie.Need-returns-in_default
 returns-7 c =
     let n = c.before.args.number in
     let P = c.before.requires in
-    let ((((((_, two), three), four), five), six), seven) = c.match.rest in
+    let ((((((_, two), three), four), five), six), seven) = c.in_default.rest in
     let above = past n 7 (past n 6 (past n 5 (past n 4 (past n 3 (past n 2 P.least two) three) four) five) six) seven in
     as-found n 8 _ _ (omega (arith, P.most))
 
-pub refused-page-spec : {M : Type 1} → statement M
-refused-page-spec =
+pub refused_page_spec : {M : Type 1} → statement M
+refused_page_spec =
     tie.close (tie.spec returns returns-2 returns-3 returns-4 returns-5 returns-6 returns-7)

@@ -9,22 +9,22 @@ use borrow.Author.Rules.{rules}
 use Rattle.reader.proofs.call.room_fits.Statement.{statement}
 use Rattle.reader.proofs.call.room_fits.Tie as tie
 
-rows-fit-requires : tie.Need-rows-fit-requires
+rows-fit-requires : tie.Need-rows_fit-requires
 rows-fit-requires c κs = search rules
 
-returns : tie.Need-returns
+returns : tie.Need-returns-then-not-rows_fit
 returns c =
     let a = c.before.before.args in
-    sym (ap (λ (x : Bool). x && leb text_room a.text) (sym c.before.rows_fit.ensures ∙ not-true _ c.if1.true))
+    sym (ap (λ (x : Bool). x && leb text_room a.text) (sym c.before.rows_fit.ensures ∙ not-true _ c.if-not-rows_fit.true))
 
-text-fits-requires : tie.Need-text-fits-requires
+text-fits-requires : tie.Need-text_fits-requires
 text-fits-requires c κs = search rules
 
-returns-2 : tie.Need-returns-2
+returns-2 : tie.Need-returns
 returns-2 c =
     let R = c.before.before in
     let a = R.before.args in
-    c.text-fits.ensures ∙ sym (ap (λ (x : Bool). x && leb text_room a.text) (sym R.rows_fit.ensures ∙ not-false _ c.before.if1.false))
+    c.text_fits.ensures ∙ sym (ap (λ (x : Bool). x && leb text_room a.text) (sym R.rows_fit.ensures ∙ not-false _ c.before.if-not-rows_fit.false))
 
-pub room-fits-spec : {M : Type 1} → statement M
-room-fits-spec = tie.close (tie.spec rows-fit-requires returns text-fits-requires returns-2)
+pub room_fits_spec : {M : Type 1} → statement M
+room_fits_spec = tie.close (tie.spec rows-fit-requires returns text-fits-requires returns-2)

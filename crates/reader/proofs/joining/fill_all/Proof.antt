@@ -20,61 +20,61 @@ paged S = let h = pages_count S.args.buffer.now S.args.starts.now S.args.lens.no
 one : (c : tie.Start) → 0 < length c.args.starts.now
 one c = omega (arith, c.requires.0)
 
-fits : (c : tie.After-page-at) → PageFits c.page-at.result.now
-fits c = page_fits {i = 0} (called c.before.before.before.before.before.before.before.before.requires.2) (one c.before.before.before.before.before.before.before.before) c.page-at.ensures
+fits : (c : tie.After-page_at-first) → PageFits c.page_at-first.result.now
+fits c = page_fits {i = 0} (called c.before.before.before.before.before.before.before.before.requires.2) (one c.before.before.before.before.before.before.before.before) c.page_at-first.ensures
 
-page-at-requires : tie.Need-page-at-requires
+page-at-requires : tie.Need-page_at-first-requires
 page-at-requires c κs =
     let start = c.before.before.before.before.before.before.before in
     (one start, start.requires.2.lie)
 
-element-copy-out-find-head : tie.Need-element-copy-out-find-head
+element-copy-out-find-head : tie.Need-bounds-firsts-0
 element-copy-out-find-head c = search rules
 
-element-copy-out-find-head-2 : tie.Need-element-copy-out-find-head-2
+element-copy-out-find-head-2 : tie.Need-bounds-firsts-1
 element-copy-out-find-head-2 c = search rules
 
-find-head-requires : tie.Need-find-head-requires
+find-head-requires : tie.Need-find_head-places-requires
 find-head-requires c κs =
     let start = c.before.before.before.before.before.before.before.before.before.before in
     read_at start.requires.2 0 (one start) c.before.before.page-at.ensures
 
-lay-head-requires : tie.Need-lay-head-requires
+lay-head-requires : tie.Need-lay_head-head-requires
 lay-head-requires c κs =
     let at-fit = c.before.before.before.before in
     let S = c.before.before.before.before.before.before.before.before.before.before.before.before in
     let a = S.args in
     (c.before.find-Head.ensures, (fits at-fit).fit, head_place (pages_at a.buffer.now a.starts.now a.lens.now) a.z (paged S) S.requires.4 _ _ at-fit.page-at.ensures S.requires.8 S.requires.9)
 
-fill-pages-requires : tie.Need-fill-pages-requires
+fill-pages-requires : tie.Need-fill_pages-filled-requires
 fill-pages-requires c κs =
     let H = c.before.before.before.before in
     let S = c.before.before.before.before.before.before.before.before.before.before.before.before.before.before.before.before.before in
     let a = S.args in
-    let l : 12600 ≤ length H.lay-head.new.1.1.1.1.0 = omega (arith, S.requires.9, H.lay-head.auto.1.1.1.1.0) in
-    let P = rows_place (pages_at a.buffer.now a.starts.now a.lens.now) a.z (paged S) S.requires.4 _ H.lay-head.new.1.1.1.1.0 a.rows.now _ c.before.before.before.before.before.before.before.before.before.page-at.ensures S.requires.6 S.requires.7 S.requires.8 l H.lay-head.ensures.end_is in
+    let l : 12600 ≤ length H.lay_head-head.new.1.1.1.1.0 = omega (arith, S.requires.9, H.lay_head-head.auto.1.1.1.1.0) in
+    let P = rows_place (pages_at a.buffer.now a.starts.now a.lens.now) a.z (paged S) S.requires.4 _ H.lay_head-head.new.1.1.1.1.0 a.rows.now _ c.before.before.before.before.before.before.before.before.before.page-at.ensures S.requires.6 S.requires.7 S.requires.8 l H.lay_head-head.ensures.end_is in
     (S.requires.1, S.requires.2, S.requires.3, S.requires.5, P.room, P.records)
 
-cast-t28 : tie.Need-overflow-cast-t28
+cast-t28 : tie.Need-overflow_cast-result
 cast-t28 c =
     let S = c.before.before.before.before.before.before.before.before.before.before.before.before.before.before.before.before.before.before.before.before.before.before.before.before in
     let a = S.args in
-    let f = rows_few (pages_at a.buffer.now a.starts.now a.lens.now) a.z (paged S) S.requires.4 S.requires.6 in omega (arith, c.before.before.before.before.before.before.fill-pages.ensures.next_is, f)
+    let f = rows_few (pages_at a.buffer.now a.starts.now a.lens.now) a.z (paged S) S.requires.4 S.requires.6 in omega (arith, c.before.before.before.before.before.before.fill_pages-filled.ensures.next_is, f)
 
-same_length : tie.Need-same-length
+same_length : tie.Need-shape_of-rows
 same_length c = search rules
 
-same-length-2 : tie.Need-same-length-2
+same-length-2 : tie.Need-shape_of-text
 same-length-2 c = search rules
 
 returns : tie.Need-returns
 returns c =
     let S = c.before.before.before.before.before.before.before.before.before.before.before.before.before.before.before.before.before.before.before.before.before.before.before.before in
     let a = S.args in
-    plan_made (pages_at a.buffer.now a.starts.now a.lens.now) a.z (paged S) S.requires.4 _ a.text.now _ _ a.rows.now _ _ _ _ _ _ c.before.before.before.before.before.before.before.before.before.before.before.before.before.before.before.before.page-at.ensures (omega (arith, S.requires.8, S.requires.9)) c.before.before.before.before.before.before.before.before.before.before.before.lay-head.ensures c.before.before.before.before.before.before.fill-pages.ensures
+    plan_made (pages_at a.buffer.now a.starts.now a.lens.now) a.z (paged S) S.requires.4 _ a.text.now _ _ a.rows.now _ _ _ _ _ _ c.before.before.before.before.before.before.before.before.before.before.before.before.before.before.before.before.page-at.ensures (omega (arith, S.requires.8, S.requires.9)) c.before.before.before.before.before.before.before.before.before.before.before.lay_head-head.ensures c.before.before.before.before.before.before.fill_pages-filled.ensures
 
-pub fill-all-spec : {M : Type 1} → statement M
-fill-all-spec =
+pub fill_all_spec : {M : Type 1} → statement M
+fill_all_spec =
     tie.close
     (tie.spec
     page-at-requires

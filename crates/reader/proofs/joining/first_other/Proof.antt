@@ -13,51 +13,51 @@ use Rattle.reader.proofs.joining.first_other.Statement.{statement}
 use Rattle.reader.proofs.joining.first_other.Tie as tie
 use borrow.Author.Rules.{rules}
 
-abbrev invariant-loop : tie.invariant-loop
+abbrev invariant-loop : tie.invariant-loop-i
 invariant-loop b ss ns x t fs h n i₀ i = (1 ≤ i) × (i ≤ length ss) × (length (pages_at b ss ns) ≡ length ss) × AlikeTo (pages_at b ss ns) i
 
-abbrev decreases-loop : tie.decreases-loop
+abbrev decreases-loop : tie.decreases-loop-i
 decreases-loop b ss ns x t fs h n i₀ i = length ss - i
 
-loop-holds : tie.Need-loop-init invariant-loop decreases-loop
+loop-holds : tie.Need-loop-i-init invariant-loop decreases-loop
 loop-holds c =
     let S = c.before.before.before.before.before in
     let a = S.args in
     let h = pages_count a.buffer.now a.starts.now a.lens.now S.requires.2.lie in
     (search rules, search rules, h, alike_one (pages_at a.buffer.now a.starts.now a.lens.now) (omega (arith, h, S.requires.0)))
 
-like-first-requires : tie.Need-like-first-requires invariant-loop decreases-loop
+like-first-requires : tie.Need-like_first-requires invariant-loop decreases-loop
 like-first-requires c κs =
     let start = c.before.before.before.before.before.before.before in
-    (c.loop-test.true, start.requires.2, start.requires.3)
+    (c.loop-i-test.true, start.requires.2, start.requires.3)
 
-add-result : tie.Need-overflow-add-result invariant-loop decreases-loop
+add-result : tie.Need-overflow_add-result invariant-loop decreases-loop
 add-result c = search rules
 
-returns : tie.Need-returns invariant-loop decreases-loop
+returns : tie.Need-returns-then-not-like_first invariant-loop decreases-loop
 returns c =
     let start = c.before.before.before.before.before.before.before.before.before in
-    let L = c.before.before.before in sym (other_here_lem (pages_at start.args.buffer.now start.args.starts.now start.args.lens.now) L.loop.i (omega (arith, L.loop.invariant.2, c.before.before.loop-test.true)) L.loop.invariant.3 (sym c.before.like-first.ensures ∙ no_not _ c.if1.true))
+    let L = c.before.before.before in sym (other_here_lem (pages_at start.args.buffer.now start.args.starts.now start.args.lens.now) L.loop-i.i (omega (arith, L.loop-i.invariant.2, c.before.before.loop-i-test.true)) L.loop-i.invariant.3 (sym c.before.like_first.ensures ∙ no_not _ c.if-not-like_first.true))
 
-add-i : tie.Need-overflow-add-i invariant-loop decreases-loop
+add-i : tie.Need-overflow_add-i invariant-loop decreases-loop
 add-i c = search rules
 
-loop-less : tie.Need-loop-smaller invariant-loop decreases-loop
+loop-less : tie.Need-loop-i-smaller invariant-loop decreases-loop
 loop-less c = search rules
 
-loop-again : tie.Need-loop-preserved invariant-loop decreases-loop
+loop-again : tie.Need-loop-i-preserved invariant-loop decreases-loop
 loop-again c =
     let start = c.before.before.before.before.before.before.before.before.before in
     let L = c.before.before.before in
-    let v = L.loop.invariant in (search rules, search rules, v.2, alike_more (pages_at start.args.buffer.now start.args.starts.now start.args.lens.now) L.loop.i (omega (arith, v.2, c.before.before.loop-test.true)) v.3 (sym c.before.like-first.ensures ∙ not_false _ c.if1.false))
+    let v = L.loop-i.invariant in (search rules, search rules, v.2, alike_more (pages_at start.args.buffer.now start.args.starts.now start.args.lens.now) L.loop-i.i (omega (arith, v.2, c.before.before.loop-i-test.true)) v.3 (sym c.before.like_first.ensures ∙ not_false _ c.if-not-like_first.false))
 
-returns-2 : tie.Need-returns-2 invariant-loop decreases-loop
+returns-2 : tie.Need-returns invariant-loop decreases-loop
 returns-2 c =
     let start = c.before.before.before.before.before.before.before in
-    let L = c.before in sym (none_other (pages_at start.args.buffer.now start.args.starts.now start.args.lens.now) L.loop.i (omega (arith, L.loop.invariant.2, c.loop-test.false)) L.loop.invariant.3)
+    let L = c.before in sym (none_other (pages_at start.args.buffer.now start.args.starts.now start.args.lens.now) L.loop-i.i (omega (arith, L.loop-i.invariant.2, c.loop-i-test.false)) L.loop-i.invariant.3)
 
-pub first-other-spec : {M : Type 1} → statement M
-first-other-spec =
+pub first_other_spec : {M : Type 1} → statement M
+first_other_spec =
     tie.close
     (tie.spec
     invariant-loop

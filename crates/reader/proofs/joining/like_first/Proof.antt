@@ -12,36 +12,36 @@ use Rattle.reader.proofs.joining.like_first.Statement.{statement}
 use Rattle.reader.proofs.joining.like_first.Tie as tie
 use borrow.Author.Rules.{rules}
 
-page-at-requires : tie.Need-page-at-requires
+page-at-requires : tie.Need-page_at-one-requires
 page-at-requires c κs =
     let start = c.before.before.before.before.before in
     (omega (arith, start.requires.0), start.requires.1.lie)
 
-page-at-requires-2 : tie.Need-page-at-requires-2
+page-at-requires-2 : tie.Need-page_at-two-requires
 page-at-requires-2 c κs =
     let start = c.before.before.before.before.before.before in
     (start.requires.0, start.requires.1.lie)
 
-mul-find-head : tie.Need-overflow-mul-find-head
+mul-find-head : tie.Need-offset_bounds-firsts-i
 mul-find-head c = search rules
 
-element-copy-out-find-head : tie.Need-element-copy-out-find-head
+element-copy-out-find-head : tie.Need-bounds-firsts-i
 element-copy-out-find-head c =
     let start = c.before.before.before.before.before.before.before in
     omega (arith, start.requires.0, start.requires.1.nine)
 
-add-find-head : tie.Need-overflow-add-find-head
+add-find-head : tie.Need-overflow_add-i
 add-find-head c = search rules
 
-mul-find-head-2 : tie.Need-overflow-mul-find-head-2
+mul-find-head-2 : tie.Need-offset_bounds-firsts-i-2
 mul-find-head-2 c = search rules
 
-element-copy-out-find-head-2 : tie.Need-element-copy-out-find-head-2
+element-copy-out-find-head-2 : tie.Need-bounds-firsts-i-2
 element-copy-out-find-head-2 c =
     let start = c.before.before.before.before.before.before.before.before in
     omega (arith, start.requires.0, start.requires.1.nine)
 
-find-head-requires : tie.Need-find-head-requires
+find-head-requires : tie.Need-find_head-k-requires
 find-head-requires c κs =
     let start = c.before.before.before.before.before.before.before.before.before in
     read_at start.requires.1 start.args.i start.requires.0 c.before.before.page-at2.ensures
@@ -61,8 +61,8 @@ alike-requires c κs =
 returns : tie.Need-returns
 returns c = let s = c.before.before.before.before.before.before.before.before.before.before.before.args in alike_first (pages_at s.buffer.now s.starts.now s.lens.now) s.i _ _ _ c.before.before.before.before.before.page-at.ensures c.before.before.before.before.page-at2.ensures c.alike.ensures
 
-pub like-first-spec : {M : Type 1} → statement M
-like-first-spec =
+pub like_first_spec : {M : Type 1} → statement M
+like_first_spec =
     tie.close
     (tie.spec
     page-at-requires

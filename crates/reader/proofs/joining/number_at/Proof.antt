@@ -13,49 +13,49 @@ use Rattle.reader.proofs.joining.number_at.Statement.{statement}
 use Rattle.reader.proofs.joining.number_at.Tie as tie
 use borrow.Author.Rules.{rules}
 
-fits : (c : tie.After-page-at) → PageFits c.page-at.result.now
-fits c = page_fits (called c.before.before.before.before.before.before.requires.1) c.before.before.before.before.before.before.requires.0 c.page-at.ensures
+fits : (c : tie.After-page_at-page) → PageFits c.page_at-page.result.now
+fits c = page_fits (called c.before.before.before.before.before.before.requires.1) c.before.before.before.before.before.before.requires.0 c.page_at-page.ensures
 
-page-at-requires : tie.Need-page-at-requires
+page-at-requires : tie.Need-page_at-page-requires
 page-at-requires c κs =
     let start = c.before.before.before.before.before in
     (start.requires.0, start.requires.1.lie)
 
-mul-find-head : tie.Need-overflow-mul-find-head
+mul-find-head : tie.Need-offset_bounds-firsts-i
 mul-find-head c = search rules
 
-element-copy-out-find-head : tie.Need-element-copy-out-find-head
+element-copy-out-find-head : tie.Need-bounds-firsts-i
 element-copy-out-find-head c =
     let start = c.before.before.before.before.before.before in
     omega (arith, start.requires.0, start.requires.1.nine)
 
-add-find-head : tie.Need-overflow-add-find-head
+add-find-head : tie.Need-overflow_add-i
 add-find-head c = search rules
 
-mul-find-head-2 : tie.Need-overflow-mul-find-head-2
+mul-find-head-2 : tie.Need-offset_bounds-firsts-i-2
 mul-find-head-2 c = search rules
 
-element-copy-out-find-head-2 : tie.Need-element-copy-out-find-head-2
+element-copy-out-find-head-2 : tie.Need-bounds-firsts-i-2
 element-copy-out-find-head-2 c =
     let start = c.before.before.before.before.before.before.before in
     omega (arith, start.requires.0, start.requires.1.nine)
 
-find-head-requires : tie.Need-find-head-requires
+find-head-requires : tie.Need-find_head-h-requires
 find-head-requires c κs =
     let start = c.before.before.before.before.before.before.before.before in
     read_at start.requires.1 start.args.i start.requires.0 c.before.before.page-at.ensures
 
-number-of-requires : tie.Need-number-of-requires
+number-of-requires : tie.Need-number_of-no-requires
 number-of-requires c κs = (c.find-Head.ensures.mp_at, (fits c.before.before.before).fit)
 
-cast-result : tie.Need-overflow-cast-result
+cast-result : tie.Need-overflow_cast-result
 cast-result c = omega (arith, c.number_of_lem.ensures, (fits c.before.before.before.before).no_small)
 
 returns : tie.Need-returns
 returns c = c.number_of_lem.ensures ∙ ap (λ (w : List ℕ). (content_of (tags_at w 0)).no) c.before.before.before.before.page-at.ensures
 
-pub number-at-spec : {M : Type 1} → statement M
-number-at-spec =
+pub number_at_spec : {M : Type 1} → statement M
+number_at_spec =
     tie.close
     (tie.spec
     page-at-requires

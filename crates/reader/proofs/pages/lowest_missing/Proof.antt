@@ -5,11 +5,11 @@ use borrow.Author.Rules.{rules}
 use Rattle.reader.proofs.pages.lowest_missing.Statement.{statement}
 use Rattle.reader.proofs.pages.lowest_missing.Tie as tie
 
-returns : tie.Need-returns
-returns c = no_number _ c.if1.true
+returns : tie.Need-returns-then-mask-eq0
+returns c = no_number _ c.if-mask-eq0.true
 
-returns-2 : tie.Need-returns-2
-returns-2 c = first_number c.before.args.mask (search rules) c.if1.false
+returns-2 : tie.Need-returns
+returns-2 c = first_number c.before.args.mask (search rules) c.if-mask-eq0.false
 
-pub lowest-missing-spec : {M : Type 1} → statement M
-lowest-missing-spec = tie.close (tie.spec returns returns-2)
+pub lowest_missing_spec : {M : Type 1} → statement M
+lowest_missing_spec = tie.close (tie.spec returns returns-2)

@@ -8,5 +8,5 @@ use Rattle.reader.proofs.pages.missing_count.Tie as tie
 returns : tie.Need-returns
 returns c = count_numbers _ (search rules)
 
-pub missing-count-spec : {M : Type 1} → statement M
-missing-count-spec = tie.close (tie.spec returns)
+pub missing_count_spec : {M : Type 1} → statement M
+missing_count_spec = tie.close (tie.spec returns)

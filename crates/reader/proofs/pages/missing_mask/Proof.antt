@@ -10,24 +10,24 @@ use borrow.Author.Rules.{rules}
 use Rattle.reader.proofs.pages.missing_mask.Statement.{statement}
 use Rattle.reader.proofs.pages.missing_mask.Tie as tie
 
-returns : tie.Need-returns
+returns : tie.Need-returns-then-z-gt9
 unfolding absent
-returns c = rw (lt-leb _ 9 c.if1.true)
+returns c = rw (lt-leb _ 9 c.if-z-gt9.true)
 
-shl-result : tie.Need-overflow-shl-result
+shl-result : tie.Need-overflow_shl-result
 shl-result c = search rules
 
-sub-result : tie.Need-overflow-sub-result
+sub-result : tie.Need-overflow_sub-result
 sub-result c =
     let z = c.before.args.z in
     let up : 2 ^ 1 ≤ 2 ^ (z + 1) = pow_mono {i = 1} {j = z + 1} (omega arith) in
     let e = above_z z (omega arith) in
     omega arith
 
-returns-2 : tie.Need-returns-2
+returns-2 : tie.Need-returns
 returns-2 c =
     let a = c.before.args in
-    rw (above_z a.z c.if1.false) (lacking a.have a.z (search rules) c.if1.false)
+    rw (above_z a.z c.if-z-gt9.false) (lacking a.have a.z (search rules) c.if-z-gt9.false)
 
-pub missing-mask-spec : {M : Type 1} → statement M
-missing-mask-spec = tie.close (tie.spec returns shl-result sub-result returns-2)
+pub missing_mask_spec : {M : Type 1} → statement M
+missing_mask_spec = tie.close (tie.spec returns shl-result sub-result returns-2)

@@ -9,48 +9,48 @@ use borrow.Author.Rules.{rules}
 use Rattle.reader.proofs.pages.page_of.Statement.{statement}
 use Rattle.reader.proofs.pages.page_of.Tie as tie
 
-abbrev invariant-loop : tie.invariant-loop
+abbrev invariant-loop : tie.invariant-loop-i
 invariant-loop n k nos i₀ i = (i ≤ n) × (place_in k (take n nos) ≡ i + place_in k (drop i (take n nos)))
 
-abbrev decreases-loop : tie.decreases-loop
+abbrev decreases-loop : tie.decreases-loop-i
 decreases-loop n k nos i₀ i = n - i
 
-loop-holds : tie.Need-loop-init invariant-loop decreases-loop
+loop-holds : tie.Need-loop-i-init invariant-loop decreases-loop
 loop-holds c = search rules
 
-array-read-if1 : tie.Need-array-read-if1 invariant-loop decreases-loop
+array-read-if1 : tie.Need-bounds-nos-i invariant-loop decreases-loop
 array-read-if1 c = search rules
 
-returns : tie.Need-returns invariant-loop decreases-loop
+returns : tie.Need-returns-then-nos-i invariant-loop decreases-loop
 returns c =
     let L = c.before.before in
     let a = L.before.args in
     let nine : a.n ≤ length a.t1 = omega arith in
-    place_told a.k (take a.n a.t1) L.loop.i (L.loop.invariant.1 ∙ place_hit a.t1 a.n nine a.k L.loop.i (search rules) c.if1.true)
+    place_told a.k (take a.n a.t1) L.loop-i.i (L.loop-i.invariant.1 ∙ place_hit a.t1 a.n nine a.k L.loop-i.i (search rules) c.if-nos-i.true)
 
-add-i : tie.Need-overflow-add-i invariant-loop decreases-loop
+add-i : tie.Need-overflow_add-i invariant-loop decreases-loop
 add-i c = search rules
 
-loop-less : tie.Need-loop-smaller invariant-loop decreases-loop
+loop-less : tie.Need-loop-i-smaller invariant-loop decreases-loop
 loop-less c = search rules
 
-loop-again : tie.Need-loop-preserved invariant-loop decreases-loop
+loop-again : tie.Need-loop-i-preserved invariant-loop decreases-loop
 loop-again c =
     let L = c.before.before in
     let a = L.before.args in
     let nine : a.n ≤ length a.t1 = omega arith in
-    (search rules, L.loop.invariant.1 ∙ place_miss a.t1 a.n nine a.k L.loop.i (search rules) c.if1.false)
+    (search rules, L.loop-i.invariant.1 ∙ place_miss a.t1 a.n nine a.k L.loop-i.i (search rules) c.if-nos-i.false)
 
-returns-2 : tie.Need-returns-2 invariant-loop decreases-loop
+returns-2 : tie.Need-returns invariant-loop decreases-loop
 returns-2 c =
     let L = c.before in
     let a = L.before.args in
     let nine : a.n ≤ length a.t1 = omega arith in
-    let end : L.loop.i ≡ a.n = omega arith in
-    place_told a.k (take a.n a.t1) a.n (L.loop.invariant.1 ∙ (place_done a.t1 a.n nine a.k L.loop.i (search rules) ∙ end))
+    let end : L.loop-i.i ≡ a.n = omega arith in
+    place_told a.k (take a.n a.t1) a.n (L.loop-i.invariant.1 ∙ (place_done a.t1 a.n nine a.k L.loop-i.i (search rules) ∙ end))
 
-pub page-of-spec : {M : Type 1} → statement M
-page-of-spec =
+pub page_of_spec : {M : Type 1} → statement M
+page_of_spec =
     tie.close
     (tie.spec
     invariant-loop

@@ -13,5 +13,5 @@ bit-requires c κs = search rules
 returns : tie.Need-returns
 returns c = ap (λ (x : ℕ). bit_or c.before.args.mask x) c.bit.ensures
 
-pub with-number-spec : {M : Type 1} → statement M
-with-number-spec = tie.close (tie.spec bit-requires returns)
+pub with_number_spec : {M : Type 1} → statement M
+with_number_spec = tie.close (tie.spec bit-requires returns)

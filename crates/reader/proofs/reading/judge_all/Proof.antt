@@ -32,13 +32,13 @@ turn b ss ns scratch n i H h =
     let e : get_or ss i 0 + get_or ns i 0 - get_or ss i 0 ≡ get_or ns i 0 = omega arith in
     rw e (pages_from b ss ns i (omega (arith, H.all)) (omega (arith, H.all, H.inside.alike)))
 
-abbrev invariant-loop : tie.invariant-loop
+abbrev invariant-loop : tie.invariant-loop-i
 invariant-loop buffer starts lens scratch₀ n i₀ scratch i = Held buffer starts lens scratch n i
 
-abbrev decreases-loop : tie.decreases-loop
+abbrev decreases-loop : tie.decreases-loop-i
 decreases-loop buffer starts lens scratch₀ n i₀ scratch i = n - i
 
-loop-holds : tie.Need-loop-init invariant-loop decreases-loop
+loop-holds : tie.Need-loop-i-init invariant-loop decreases-loop
 loop-holds c =
     let S = c.before.before.before in
     let a = S.args in
@@ -52,103 +52,103 @@ loop-holds c =
       left = refl;
     }
 
-mul-s : tie.Need-overflow-mul-s invariant-loop decreases-loop
+mul-s : tie.Need-offset_bounds-starts-i invariant-loop decreases-loop
 mul-s c = search rules
 
-shared-slice-read-s : tie.Need-shared-slice-read-s invariant-loop decreases-loop
+shared-slice-read-s : tie.Need-bounds-starts-i invariant-loop decreases-loop
 shared-slice-read-s c = search rules
 
-mul-e : tie.Need-overflow-mul-e invariant-loop decreases-loop
+mul-e : tie.Need-offset_bounds-lens-i invariant-loop decreases-loop
 mul-e c = search rules
 
-shared-slice-read-e : tie.Need-shared-slice-read-e invariant-loop decreases-loop
+shared-slice-read-e : tie.Need-bounds-lens-i invariant-loop decreases-loop
 shared-slice-read-e c = search rules
 
-add-e : tie.Need-overflow-add-e invariant-loop decreases-loop
+add-e : tie.Need-overflow_add-e invariant-loop decreases-loop
 add-e c =
     let L = c.before.before.before in
-    let i = L.loop.i in
-    let h = L.loop.invariant.inside.ends i (omega (arith, L.loop.invariant.all, c.before.before.loop-test.true)) in
+    let i = L.loop-i.i in
+    let h = L.loop-i.invariant.inside.ends i (omega (arith, L.loop-i.invariant.all, c.before.before.loop-i-test.true)) in
     omega (arith, h)
 
-sub-judge-page : tie.Need-overflow-sub-judge-page invariant-loop decreases-loop
+sub-judge-page : tie.Need-slice_bounds-judge_page-count invariant-loop decreases-loop
 sub-judge-page c = search rules
 
-part-judge-page-start : tie.Need-slice-bounds-judge-page-start invariant-loop decreases-loop
+part-judge-page-start : tie.Need-slice_bounds-judge_page-start invariant-loop decreases-loop
 part-judge-page-start c = search rules
 
-part-judge-page-end : tie.Need-slice-bounds-judge-page-end invariant-loop decreases-loop
+part-judge-page-end : tie.Need-slice_bounds-judge_page-end invariant-loop decreases-loop
 part-judge-page-end c =
     let L = c.before.before.before in
-    let i = L.loop.i in
-    let h = L.loop.invariant.inside.ends i (omega (arith, L.loop.invariant.all, c.before.before.loop-test.true)) in
+    let i = L.loop-i.i in
+    let h = L.loop-i.invariant.inside.ends i (omega (arith, L.loop-i.invariant.all, c.before.before.loop-i-test.true)) in
     omega (arith, h)
 
-slice-aggregate-judge-page : tie.Need-slice-aggregate-judge-page invariant-loop decreases-loop
+slice-aggregate-judge-page : tie.Need-slice_bounds-judge_page-end-in-loop-i invariant-loop decreases-loop
 slice-aggregate-judge-page c = search rules
 
-judge-page-requires : tie.Need-judge-page-requires invariant-loop decreases-loop
+judge-page-requires : tie.Need-judge_page-verdict-requires invariant-loop decreases-loop
 judge-page-requires c κs = search rules
 
-enum-known-verdict : tie.Need-enum-known-verdict invariant-loop decreases-loop
+enum-known-verdict : tie.Need-enum_known-verdict invariant-loop decreases-loop
 enum-known-verdict c = search rules
 
-cast-refused-page : tie.Need-overflow-cast-refused-page invariant-loop decreases-loop
+cast-refused-page : tie.Need-overflow_cast-number invariant-loop decreases-loop
 cast-refused-page c = search rules
 
-cast-refused-page-2 : tie.Need-overflow-cast-refused-page-2 invariant-loop decreases-loop
+cast-refused-page-2 : tie.Need-overflow_cast-i invariant-loop decreases-loop
 cast-refused-page-2 c = search rules
 
-add-refused-page : tie.Need-overflow-add-refused-page invariant-loop decreases-loop
+add-refused-page : tie.Need-overflow_add-i invariant-loop decreases-loop
 add-refused-page c = search rules
 
-cast-refused-page-3 : tie.Need-overflow-cast-refused-page-3 invariant-loop decreases-loop
+cast-refused-page-3 : tie.Need-overflow_cast-place invariant-loop decreases-loop
 cast-refused-page-3 c = search rules
 
-refused-page-requires : tie.Need-refused-page-requires invariant-loop decreases-loop
-refused-page-requires c κs = let N = c.before in page_refused _ _ _ (sym N.verdict.given.1 ∙ N.before.before.before.judge-page.ensures)
+refused-page-requires : tie.Need-refused_page-requires invariant-loop decreases-loop
+refused-page-requires c κs = let N = c.before in page_refused _ _ _ (sym N.verdict-1.given.1 ∙ N.before.before.before.judge_page-verdict.ensures)
 
-returns : tie.Need-returns invariant-loop decreases-loop
+returns : tie.Need-returns-in-Refused invariant-loop decreases-loop
 returns c =
     let N = c.before.before in
     let P = N.before.before.before in
     let T = P.before.before.before.before.before in
     let L = T.before in
-    c.refused-page.ensures ∙ (stops _ L.loop.i _ (turn _ _ _ _ _ _ L.loop.invariant T.loop-test.true) _ _ (sym N.verdict.given.1 ∙ P.judge-page.ensures) ∙ sym L.loop.invariant.left)
+    c.refused_page.ensures ∙ (stops _ L.loop-i.i _ (turn _ _ _ _ _ _ L.loop-i.invariant T.loop-i-test.true) _ _ (sym N.verdict-1.given.1 ∙ P.judge_page-verdict.ensures) ∙ sym L.loop-i.invariant.left)
 
-enum_told : tie.Need-enum-told invariant-loop decreases-loop
+enum_told : tie.Need-enum_told-1 invariant-loop decreases-loop
 enum_told c = search rules
 
-add-i : tie.Need-overflow-add-i invariant-loop decreases-loop
+add-i : tie.Need-overflow_add-i-in-Fine invariant-loop decreases-loop
 add-i c = search rules
 
-loop-less : tie.Need-loop-smaller invariant-loop decreases-loop
+loop-less : tie.Need-loop-i-smaller invariant-loop decreases-loop
 loop-less c = search rules
 
-loop-again : tie.Need-loop-preserved invariant-loop decreases-loop
+loop-again : tie.Need-loop-i-preserved invariant-loop decreases-loop
 loop-again c =
     let P = c.before.before.before in
     let T = P.before.before.before.before.before in
     let L = T.before in
-    let H = L.loop.invariant in
+    let H = L.loop-i.invariant in
     record {
       all = H.all;
-      within = omega (arith, T.loop-test.true);
+      within = omega (arith, T.loop-i-test.true);
       nine = H.nine;
       inside = H.inside;
       pages = H.pages;
       room = search rules;
-      left = H.left ∙ goes_on _ L.loop.i _ (turn _ _ _ _ _ _ H T.loop-test.true) (sym c.enum_told.given.1 ∙ P.judge-page.ensures);
+      left = H.left ∙ goes_on _ L.loop-i.i _ (turn _ _ _ _ _ _ H T.loop-i-test.true) (sym c.enum_told-1.given.1 ∙ P.judge_page-verdict.ensures);
     }
 
-returns-2 : tie.Need-returns-2 invariant-loop decreases-loop
+returns-2 : tie.Need-returns invariant-loop decreases-loop
 returns-2 c =
     let L = c.before in
-    let H = L.loop.invariant in
-    none_refused _ L.loop.i (omega (arith, H.pages, H.all, c.loop-test.false)) ∙ sym H.left
+    let H = L.loop-i.invariant in
+    none_refused _ L.loop-i.i (omega (arith, H.pages, H.all, c.loop-i-test.false)) ∙ sym H.left
 
-pub judge-all-spec : {M : Type 1} → statement M
-judge-all-spec =
+pub judge_all_spec : {M : Type 1} → statement M
+judge_all_spec =
     tie.close
     (tie.spec
     invariant-loop

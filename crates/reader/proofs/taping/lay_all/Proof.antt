@@ -24,16 +24,16 @@ record Held (b ss ns t₀ x₀ t x fs : List ℕ) (m k : ℕ) : Type 0 where
   pub tape-used : get_or fs k 0 ≤ blanks + k * tape_room
   pub side-used : m ≤ k * side_room
 
-abbrev invariant-loop : tie.invariant-loop
+abbrev invariant-loop : tie.invariant-loop-k
 invariant-loop buffer starts lens tape₀ side₀ keys n firsts₀ m₀ k₀ tape side firsts m k = Held buffer starts lens tape₀ side₀ tape side firsts m k
 
-abbrev decreases-loop : tie.decreases-loop
+abbrev decreases-loop : tie.decreases-loop-k
 decreases-loop buffer starts lens tape₀ side₀ keys n firsts₀ m₀ k₀ tape side firsts m k = length starts - k
 
-keys-requires : tie.Need-keys-requires invariant-loop decreases-loop
+keys-requires : tie.Need-keys-keys-requires invariant-loop decreases-loop
 keys-requires c κs = search rules
 
-loop-holds : tie.Need-loop-init invariant-loop decreases-loop
+loop-holds : tie.Need-loop-k-init invariant-loop decreases-loop
 loop-holds c =
     let S = c.before.before.before.before.before.before in
     record {
@@ -45,75 +45,75 @@ loop-holds c =
       side-used = omega arith;
     }
 
-page-at-requires : tie.Need-page-at-requires invariant-loop decreases-loop
-page-at-requires c κs = (c.loop-test.true, c.before.before.before.before.before.before.before.before.requires.1)
+page-at-requires : tie.Need-page_at-page-requires invariant-loop decreases-loop
+page-at-requires c κs = (c.loop-k-test.true, c.before.before.before.before.before.before.before.before.requires.1)
 
-mul-lay-page : tie.Need-overflow-mul-lay-page invariant-loop decreases-loop
+mul-lay-page : tie.Need-offset_bounds-firsts-k invariant-loop decreases-loop
 mul-lay-page c = search rules
 
-array-read-lay-page : tie.Need-array-read-lay-page invariant-loop decreases-loop
-array-read-lay-page c = omega (arith, c.before.before.before.loop-test.true, c.before.before.before.before.before.before.before.before.before.before.before.requires.0)
+array-read-lay-page : tie.Need-bounds-firsts-k invariant-loop decreases-loop
+array-read-lay-page c = omega (arith, c.before.before.before.loop-k-test.true, c.before.before.before.before.before.before.before.before.before.before.before.requires.0)
 
-lay-page-requires : tie.Need-lay-page-requires invariant-loop decreases-loop
+lay-page-requires : tie.Need-lay_page-made-requires invariant-loop decreases-loop
 lay-page-requires c κs =
-    let v = c.before.before.before.before.before.loop.invariant in
+    let v = c.before.before.before.before.before.loop-k.invariant in
     let s = c.before.before.before.before.before.before.before.before.before.before.before.before in
-    let h = c.before.before.before.before.loop-test.true in
+    let h = c.before.before.before.before.loop-k-test.true in
     let n = pages_count s.args.buffer.now s.args.starts.now s.args.lens.now s.requires.1 in
-    let q = c.before.before.before.page-at.ensures in (
+    let q = c.before.before.before.page_at-page.ensures in (
       subst IsSheet (sym q) (s.requires.2 _ (omega (arith, h, n))),
-      c.before.before.before.before.before.before.keys.ensures,
+      c.before.before.before.before.before.before.keys-keys.ensures,
       omega (arith, v.tape-long, v.tape-used, h, s.requires.4),
       omega (arith, v.tape-long, s.requires.5),
       omega (arith, v.side-long, v.side-used, h, s.requires.6),
       omega (arith, v.side-long, s.requires.7),
     )
 
-add-firsts : tie.Need-overflow-add-firsts invariant-loop decreases-loop
-add-firsts c = omega (arith, c.before.before.before.before.before.before.before.before.before.loop-test.true, c.before.before.before.before.before.before.before.before.before.before.before.before.before.before.before.before.before.requires.0)
+add-firsts : tie.Need-overflow_add-firsts invariant-loop decreases-loop
+add-firsts c = omega (arith, c.before.before.before.before.before.before.before.before.before.loop-k-test.true, c.before.before.before.before.before.before.before.before.before.before.before.before.before.before.before.before.before.requires.0)
 
-mul-firsts : tie.Need-overflow-mul-firsts invariant-loop decreases-loop
-mul-firsts c = omega (arith, c.before.before.before.before.before.before.before.before.before.loop-test.true, c.before.before.before.before.before.before.before.before.before.before.before.before.before.before.before.before.before.requires.0)
+mul-firsts : tie.Need-offset_bounds-firsts-k-in-loop-k invariant-loop decreases-loop
+mul-firsts c = omega (arith, c.before.before.before.before.before.before.before.before.before.loop-k-test.true, c.before.before.before.before.before.before.before.before.before.before.before.before.before.before.before.before.before.requires.0)
 
-array-write-firsts : tie.Need-array-write-firsts invariant-loop decreases-loop
-array-write-firsts c = omega (arith, c.before.before.before.before.before.before.before.before.before.loop-test.true, c.before.before.before.before.before.before.before.before.before.before.before.before.before.before.before.before.before.requires.0)
+array-write-firsts : tie.Need-bounds-firsts-k-in-loop-k invariant-loop decreases-loop
+array-write-firsts c = omega (arith, c.before.before.before.before.before.before.before.before.before.loop-k-test.true, c.before.before.before.before.before.before.before.before.before.before.before.before.before.before.before.before.before.requires.0)
 
-add-k : tie.Need-overflow-add-k invariant-loop decreases-loop
-add-k c = omega (arith, c.before.before.before.before.before.before.before.before.before.loop-test.true, c.before.before.before.before.before.before.before.before.before.before.before.before.before.before.before.before.before.requires.0)
+add-k : tie.Need-overflow_add-k invariant-loop decreases-loop
+add-k c = omega (arith, c.before.before.before.before.before.before.before.before.before.loop-k-test.true, c.before.before.before.before.before.before.before.before.before.before.before.before.before.before.before.before.before.requires.0)
 
-loop-less : tie.Need-loop-smaller invariant-loop decreases-loop
-loop-less c = omega (arith, c.before.before.before.before.before.before.before.before.before.loop-test.true)
+loop-less : tie.Need-loop-k-smaller invariant-loop decreases-loop
+loop-less c = omega (arith, c.before.before.before.before.before.before.before.before.before.loop-k-test.true)
 
-loop-again : tie.Need-loop-preserved invariant-loop decreases-loop
+loop-again : tie.Need-loop-k-preserved invariant-loop decreases-loop
 loop-again c =
     let at-page-at = c.before.before.before.before.before.before.before.before in
     let start = at-page-at.before.before.before.before.before.before.before.before.before in
-    let v = c.before.before.before.before.before.before.before.before.before.before.loop.invariant in
-    let P = c.before.before.before.before.lay-page in
-    let h = c.before.before.before.before.before.before.before.before.before.loop-test.true in
+    let v = c.before.before.before.before.before.before.before.before.before.before.loop-k.invariant in
+    let P = c.before.before.before.before.lay_page-made in
+    let h = c.before.before.before.before.before.before.before.before.before.loop-k-test.true in
     let g = v.going in
     record {
       high = omega (arith, h);
       tape-long = P.auto.1.1.0 ∙ v.tape-long;
       side-long = P.auto.1.1.1.1.0 ∙ v.side-long;
-      going = again g (omega (arith, h, start.requires.0)) at-page-at.page-at.ensures P.ensures.0 P.auto.1.1.0 P.auto.1.1.1.1.0;
-      tape-used = omega (arith, last g (omega (arith, h, start.requires.0)) at-page-at.page-at.ensures P.ensures.0 P.auto.1.1.0 P.auto.1.1.1.1.0, P.ensures.1, v.tape-used);
+      going = again g (omega (arith, h, start.requires.0)) at-page-at.page_at-page.ensures P.ensures.0 P.auto.1.1.0 P.auto.1.1.1.1.0;
+      tape-used = omega (arith, last g (omega (arith, h, start.requires.0)) at-page-at.page_at-page.ensures P.ensures.0 P.auto.1.1.0 P.auto.1.1.1.1.0, P.ensures.1, v.tape-used);
       side-used = omega (arith, P.ensures.2, v.side-used);
     }
 
-same_length : tie.Need-same-length invariant-loop decreases-loop
-same_length c = c.before.loop.invariant.tape-long
+same_length : tie.Need-shape_of-tape invariant-loop decreases-loop
+same_length c = c.before.loop-k.invariant.tape-long
 
-same-length-2 : tie.Need-same-length-2 invariant-loop decreases-loop
-same-length-2 c = c.before.loop.invariant.side-long
+same-length-2 : tie.Need-shape_of-side invariant-loop decreases-loop
+same-length-2 c = c.before.loop-k.invariant.side-long
 
 returns : tie.Need-returns invariant-loop decreases-loop
 returns c =
     let start = c.before.before.before.before.before.before.before.before in
-    taken start.requires.1 start.requires.0 c.loop-test.false c.before.loop.invariant.going
+    taken start.requires.1 start.requires.0 c.loop-k-test.false c.before.loop-k.invariant.going
 
-pub lay-all-spec : {M : Type 1} → statement M
-lay-all-spec =
+pub lay_all_spec : {M : Type 1} → statement M
+lay_all_spec =
     tie.close
     (tie.spec
     invariant-loop

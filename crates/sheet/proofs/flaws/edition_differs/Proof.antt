@@ -8,49 +8,45 @@ use borrow.Author.Rules.{rules}
 use Rattle.sheet.proofs.flaws.edition_differs.Statement.{statement}
 use Rattle.sheet.proofs.flaws.edition_differs.Tie as tie
 
-returns : tie.Need-returns
+returns : tie.Need-returns-then-kind-ne-MP
 returns c =
     let S = c.before.before.before.before in
-    no_edition _ _ _ S.requires.1 c.if1.true
+    no_edition _ _ _ S.requires.1 c.if-kind-ne-MP.true
 
-value-len-requires : tie.Need-value-len-requires
+value-len-requires : tie.Need-value_len-n-requires
 value-len-requires c κs =
     let S = c.before.before.before.before.before in
-    (S.requires.0, omega (arith, S.requires.2, plan_long _ c.before.if1.false))
-
-slice-aggregate-spells : tie.Need-slice-aggregate-spells
-slice-aggregate-spells c = search rules
+    (S.requires.0, omega (arith, S.requires.2, plan_long _ c.before.if-kind-ne-MP.false))
 
 spells-requires : tie.Need-spells-requires
 spells-requires c κs = search rules
 
-same_length : tie.Need-same-length
+same_length : tie.Need-shape_of-scratch-then-spells
 same_length c = search rules
 
-returns-2 : tie.Need-returns-2
+returns-2 : tie.Need-returns-then-spells
 returns-2 c =
     let W = c.before in
     let N = W.before.before.before.before.before in
     let S = N.before.before.before.before.before.before in
-    ap not (sym c.if2.true) ∙ edition_by S.args.page.now S.args.raws.now _ S.requires.1 N.before.before.if1.false _ N.value_len.ensures.0 _ W.spells.ensures
+    ap not (sym c.if-spells.true) ∙ edition_by S.args.page.now S.args.raws.now _ S.requires.1 N.before.before.if-kind-ne-MP.false _ N.value_len-n.ensures.0 _ W.spells.ensures
 
-same-length-2 : tie.Need-same-length-2
+same-length-2 : tie.Need-shape_of-scratch
 same-length-2 c = search rules
 
-returns-3 : tie.Need-returns-3
+returns-3 : tie.Need-returns
 returns-3 c =
     let W = c.before in
     let N = W.before.before.before.before.before in
     let S = N.before.before.before.before.before.before in
-    ap not (sym c.if2.false) ∙ edition_by S.args.page.now S.args.raws.now _ S.requires.1 N.before.before.if1.false _ N.value_len.ensures.0 _ W.spells.ensures
+    ap not (sym c.if-spells.false) ∙ edition_by S.args.page.now S.args.raws.now _ S.requires.1 N.before.before.if-kind-ne-MP.false _ N.value_len-n.ensures.0 _ W.spells.ensures
 
-pub edition-differs-spec : {M : Type 1} → statement M
-edition-differs-spec =
+pub edition_differs_spec : {M : Type 1} → statement M
+edition_differs_spec =
     tie.close
     (tie.spec
     returns
     value-len-requires
-    slice-aggregate-spells
     spells-requires
     same_length
     returns-2

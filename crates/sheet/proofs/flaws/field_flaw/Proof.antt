@@ -8,27 +8,27 @@ use borrow.Author.Rules.{rules}
 use Rattle.sheet.proofs.flaws.field_flaw.Statement.{statement}
 use Rattle.sheet.proofs.flaws.field_flaw.Tie as tie
 
-rule-in-requires : tie.Need-rule-in-requires
+rule-in-requires : tie.Need-rule_in-requires
 rule-in-requires c κs = search rules
 
-settled-len-requires : tie.Need-settled-len-requires
+settled-len-requires : tie.Need-settled_len-n-requires
 settled-len-requires c κs = search rules
 
-value-flaw-requires : tie.Need-value-flaw-requires
+value-flaw-requires : tie.Need-value_flaw-requires
 value-flaw-requires c κs =
     let S = c.before.before.before.before.before.before.before.before.before in
     (S.requires.3, S.requires.2, omega arith, omega (arith, c.before.before.before.settled-len.ensures.1, c.before.before.before.settled-len.auto.1.1.1.1.0))
 
-same_length : tie.Need-same-length
+same_length : tie.Need-shape_of-scratch
 same_length c = search rules
 
 returns : tie.Need-returns
 returns c =
     let N = c.before.before.before.before in
     let S = c.before.before.before.before.before.before.before.before.before.before in
-    c.value-flaw.ensures ∙ ap (field_flaw (field_at S.args.id)) (settled_field _ _ _ S.args.id c.before.before.before.before.before.before.rule-in.ensures N.settled-len.ensures.0)
+    c.value_flaw.ensures ∙ ap (field_flaw (field_at S.args.id)) (settled_field _ _ _ S.args.id c.before.before.before.before.before.before.rule-in.ensures N.settled-len.ensures.0)
 
-pub field-flaw-spec : {M : Type 1} → statement M
-field-flaw-spec =
+pub field_flaw_spec : {M : Type 1} → statement M
+field_flaw_spec =
     tie.close
     (tie.spec rule-in-requires settled-len-requires value-flaw-requires same_length returns)

@@ -9,38 +9,38 @@ use borrow.Author.Rules.{rules}
 use Rattle.sheet.proofs.flaws.settled_len.Statement.{statement}
 use Rattle.sheet.proofs.flaws.settled_len.Tie as tie
 
-value-len-requires : tie.Need-value-len-requires
+value-len-requires : tie.Need-value_len-n-requires
 value-len-requires c κs = search rules
 
-slice-reshare-prefix-is-zero : tie.Need-slice-reshare-prefix-is-zero
+slice-reshare-prefix-is-zero : tie.Need-slice_bounds-is_zero-end
 slice-reshare-prefix-is-zero c = search rules
 
-slice-aggregate-is-zero : tie.Need-slice-aggregate-is-zero
+slice-aggregate-is-zero : tie.Need-slice_bounds-is_zero-end-2
 slice-aggregate-is-zero c = let N = c.before.before.before.value_len in sym (length-take-le _ _ (omega (arith, N.ensures.1, N.auto.1.1.1.0)))
 
-is-zero-requires : tie.Need-is-zero-requires
+is-zero-requires : tie.Need-is_zero-requires
 is-zero-requires c κs = search rules
 
-same_length : tie.Need-same-length
+same_length : tie.Need-shape_of-scratch-then-is_zero
 same_length c = search rules
 
-returns : tie.Need-returns
+returns : tie.Need-returns-then-is_zero
 returns c =
     let Z = c.before in
     let n = Z.before.before.before.before.value_len.ensures in
-    (settled_zero (rule_at Z.before.before.before.before.before.before.before.before.before.args.rule) _ _ _ n.0 Z.is_zero.ensures c.if1.true, omega arith)
+    (settled_zero (rule_at Z.before.before.before.before.before.before.before.before.before.args.rule) _ _ _ n.0 Z.is_zero.ensures c.if-is_zero.true, omega arith)
 
-same-length-2 : tie.Need-same-length-2
+same-length-2 : tie.Need-shape_of-scratch
 same-length-2 c = search rules
 
-returns-2 : tie.Need-returns-2
+returns-2 : tie.Need-returns
 returns-2 c =
     let Z = c.before in
     let n = Z.before.before.before.before.value_len.ensures in
-    (settled_whole (rule_at Z.before.before.before.before.before.before.before.before.before.args.rule) _ _ _ n.0 Z.is_zero.ensures c.if1.false, n.1)
+    (settled_whole (rule_at Z.before.before.before.before.before.before.before.before.before.args.rule) _ _ _ n.0 Z.is_zero.ensures c.if-is_zero.false, n.1)
 
-pub settled-len-spec : {M : Type 1} → statement M
-settled-len-spec =
+pub settled_len_spec : {M : Type 1} → statement M
+settled_len_spec =
     tie.close
     (tie.spec
     value-len-requires

@@ -18,101 +18,101 @@ use Rattle.sheet.proofs.FoundLaws.{Held, count_is, at_start, at_stop, at_unknown
 use Rattle.sheet.proofs.found.find.Statement.{statement}
 use Rattle.sheet.proofs.found.find.Tie as tie
 
-abbrev invariant-loop : tie.invariant-loop
+abbrev invariant-loop : tie.invariant-loop-shut
 invariant-loop page at kind keys raws₀ count i₀ raws i = Held page (kind_at kind) at i raws × (length raws ≡ length raws₀)
 
-abbrev decreases-loop : tie.decreases-loop
+abbrev decreases-loop : tie.decreases-loop-shut
 decreases-loop page at kind keys raws₀ count i₀ raws i = length page - i
 
 -- where the element's fields were counted, and where the call began, from the loop's head
-abbrev counted : tie.At-loop invariant-loop decreases-loop → tie.After-count-of invariant-loop decreases-loop
+abbrev counted : tie.At-loop-shut invariant-loop decreases-loop → tie.After-count_of-count invariant-loop decreases-loop
 counted L = L.before.before.before.before.before
 
-abbrev entry : tie.At-loop invariant-loop decreases-loop → tie.Start invariant-loop decreases-loop
+abbrev entry : tie.At-loop-shut invariant-loop decreases-loop → tie.Start invariant-loop decreases-loop
 entry L = (counted L).before.before.before
 
 -- the numbers are as many as were lent
-long : (L : tie.At-loop invariant-loop decreases-loop) → length L.loop.raws ≡ length (entry L).args.raws.now
-long L = L.loop.invariant.1 ∙ L.before.before.before.clear.auto.0
+long : (L : tie.At-loop-shut invariant-loop decreases-loop) → length L.loop-shut.raws ≡ length (entry L).args.raws.now
+long L = L.loop-shut.invariant.1 ∙ L.before.before.before.clear.auto.0
 
-count-of-requires : tie.Need-count-of-requires invariant-loop decreases-loop
+count-of-requires : tie.Need-count_of-count-requires invariant-loop decreases-loop
 count-of-requires c κs = search rules
 
-mul-clear : tie.Need-overflow-mul-clear invariant-loop decreases-loop
+mul-clear : tie.Need-overflow_mul-count invariant-loop decreases-loop
 mul-clear c = search rules
 
 clear-requires : tie.Need-clear-requires invariant-loop decreases-loop
 clear-requires c κs = search rules
 
-loop-holds : tie.Need-loop-init invariant-loop decreases-loop
+loop-holds : tie.Need-loop-shut-init invariant-loop decreases-loop
 loop-holds c =
     let K = c.before.before in
     let C = K.before.before in
     let S = C.before.before.before in
     let k = kind_at S.args.kind in
-    let n : C.count_of.result ≡ length (fields_of k) = C.count_of.ensures.0 ∙ count_is k in (
+    let n : C.count_of-count.result ≡ length (fields_of k) = C.count_of-count.ensures.0 ∙ count_is k in (
       at_start _ k _ _ S.requires.0 (omega (arith, K.clear.auto.0, S.requires.4, count_is k)) (λ j h. K.clear.ensures.1 j (omega arith) (omega (arith, n, h))),
       refl,
     )
 
-next-attr-requires : tie.Need-next-attr-requires invariant-loop decreases-loop
-next-attr-requires c κs = c.loop.invariant.0.within
+next-attr-requires : tie.Need-next_attr-piece-requires invariant-loop decreases-loop
+next-attr-requires c κs = c.loop-shut.invariant.0.within
 
-enum-known-piece : tie.Need-enum-known-piece invariant-loop decreases-loop
+enum-known-piece : tie.Need-enum_known-piece invariant-loop decreases-loop
 enum-known-piece c = search rules
 
-same_length : tie.Need-same-length invariant-loop decreases-loop
+same_length : tie.Need-shape_of-raws-in-Stop invariant-loop decreases-loop
 same_length c = long c.before.before.before.before
 
-returns : tie.Need-returns invariant-loop decreases-loop
+returns : tie.Need-returns-in-Stop invariant-loop decreases-loop
 returns c =
     let P = c.before in
     let N = P.before.before in
     let L = N.before in
-    at_stop L.loop.invariant.0 _ (N.next-attr.ensures.0 ∙ ap (first_of (entry L).args.page.now) P.piece.given.1)
+    at_stop L.loop-shut.invariant.0 _ (N.next_attr-piece.ensures.0 ∙ ap (first_of (entry L).args.page.now) P.piece-1.given.1)
 
-enum-known-piece-2 : tie.Need-enum-known-piece-2 invariant-loop decreases-loop
+enum-known-piece-2 : tie.Need-enum_known-piece-in-Attribute-1 invariant-loop decreases-loop
 enum-known-piece-2 c = search rules
 
 -- an attribute: the loop's head before it, and the page
-module _ (P : tie.After-piece2 invariant-loop decreases-loop) where
-  abbrev head : tie.At-loop invariant-loop decreases-loop
+module _ (P : tie.In-Attribute-2 invariant-loop decreases-loop) where
+  abbrev head : tie.At-loop-shut invariant-loop decreases-loop
   head = P.before.before.before
 
   abbrev page : List ℕ
   page = (entry head).args.page.now
 
   -- its places lie in order
-  order : Inner head.loop.i (length page) (Attribute P.piece2.given.0.0 P.piece2.given.0.1.0 P.piece2.given.0.1.1.0 P.piece2.given.0.1.1.1.0)
-  order = subst (λ r. Inner head.loop.i (length page) r) P.piece2.given.1 P.before.before.next-attr.ensures.1
+  order : Inner head.loop.i (length page) (Attribute P.piece-in-Attribute-1.given.0.0 P.piece-in-Attribute-1.given.0.1.0 P.piece-in-Attribute-1.given.0.1.1.0 P.piece-in-Attribute-1.given.0.1.1.1.0)
+  order = subst (λ r. Inner head.loop.i (length page) r) P.piece-in-Attribute-1.given.1 P.before.before.next_attr-piece.ensures.1
 
   -- it and what stands behind it
   shape : inside_at page head.loop.i
-      ≡ first_of page (Attribute P.piece2.given.0.0 P.piece2.given.0.1.0 P.piece2.given.0.1.1.0 P.piece2.given.0.1.1.1.0)
-  shape = P.before.before.next-attr.ensures.0 ∙ ap (first_of page) P.piece2.given.1
+      ≡ first_of page (Attribute P.piece-in-Attribute-1.given.0.0 P.piece-in-Attribute-1.given.0.1.0 P.piece-in-Attribute-1.given.0.1.1.0 P.piece-in-Attribute-1.given.0.1.1.1.0)
+  shape = P.before.before.next_attr-piece.ensures.0 ∙ ap (first_of page) P.piece-in-Attribute-1.given.1
 
-sub-field-in : tie.Need-overflow-sub-field-in invariant-loop decreases-loop
+sub-field-in : tie.Need-slice_bounds-field_in-count invariant-loop decreases-loop
 sub-field-in c = let h = order c.before.before in omega (arith, h.1)
 
-part-field-in-start : tie.Need-slice-bounds-field-in-start invariant-loop decreases-loop
+part-field-in-start : tie.Need-slice_bounds-field_in-start invariant-loop decreases-loop
 part-field-in-start c = let h = order c.before.before in omega (arith, h.1)
 
-part-field-in-end : tie.Need-slice-bounds-field-in-end invariant-loop decreases-loop
+part-field-in-end : tie.Need-slice_bounds-field_in-end-in-Attribute invariant-loop decreases-loop
 part-field-in-end c = let h = order c.before.before in omega (arith, h.2, h.3, h.4)
 
-field-in-requires : tie.Need-field-in-requires invariant-loop decreases-loop
+field-in-requires : tie.Need-field_in-j-requires invariant-loop decreases-loop
 field-in-requires c κs = search rules
 
 -- an attribute whose field was looked for
-module _ (F : tie.After-field-in invariant-loop decreases-loop) where
-  abbrev at_piece : tie.After-piece2 invariant-loop decreases-loop
+module _ (F : tie.After-field_in-j invariant-loop decreases-loop) where
+  abbrev at_piece : tie.In-Attribute-2 invariant-loop decreases-loop
   at_piece = F.before.before.before.before
 
   -- the place of its field
-  place : F.field_in.result
+  place : F.field_in-j.result
       ≡ place_in (slice at_piece.piece2.given.0.0 at_piece.piece2.given.0.1.0 (page at_piece)) (fields_of (kind_at (entry (head at_piece)).args.kind))
   place =
-      F.field_in.ensures.0
+      F.field_in-j.ensures.0
       ∙ ap (λ m. place_in m (fields_of (kind_at (entry (head at_piece)).args.kind))) (part_is (page at_piece) at_piece.piece2.given.0.0 at_piece.piece2.given.0.1.0)
 
   -- how many fields the element has
@@ -120,79 +120,79 @@ module _ (F : tie.After-field-in invariant-loop decreases-loop) where
   so-many = (counted (head at_piece)).count_of.ensures.0
 
   -- the numbers of a field that is known are lent
-  lent : F.field_in.result < (counted (head at_piece)).count_of.result → 2 * F.field_in.result + 1 < length (head at_piece).loop.raws
+  lent : F.field_in-j.result < (counted (head at_piece)).count_of.result → 2 * F.field_in-j.result + 1 < length (head at_piece).loop.raws
   lent h = omega (arith, h, so-many, (entry (head at_piece)).pre.4, long (head at_piece))
 
-same-length-2 : tie.Need-same-length-2 invariant-loop decreases-loop
+same-length-2 : tie.Need-shape_of-raws-then-j-count invariant-loop decreases-loop
 same-length-2 c = long (head (at_piece c.before))
 
-returns-2 : tie.Need-returns-2 invariant-loop decreases-loop
+returns-2 : tie.Need-returns-then-j-count invariant-loop decreases-loop
 returns-2 c =
     let F = c.before in
     let P = at_piece F in
-    (at_unknown (head P).loop.inv.0 _ _ _ (shape P) _ _ (place F) (so-many F) c.if1.true, λ z. no z)
+    (at_unknown (head P).loop.inv.0 _ _ _ (shape P) _ _ (place F) (so-many F) c.if-j-count.true, λ z. no z)
 
-mul-s : tie.Need-overflow-mul-s invariant-loop decreases-loop
+mul-s : tie.Need-overflow_mul-s invariant-loop decreases-loop
 mul-s c = search rules
 
-mul-if2 : tie.Need-overflow-mul-if2 invariant-loop decreases-loop
+mul-if2 : tie.Need-offset_bounds-raws-s invariant-loop decreases-loop
 mul-if2 c = search rules
 
-slice-read-if2 : tie.Need-slice-read-if2 invariant-loop decreases-loop
-slice-read-if2 c = omega (arith, lent c.before.before c.before.if1.false)
+slice-read-if2 : tie.Need-bounds-raws-s invariant-loop decreases-loop
+slice-read-if2 c = omega (arith, lent c.before.before c.before.if-j-count.false)
 
-same-length-3 : tie.Need-same-length-3 invariant-loop decreases-loop
+same-length-3 : tie.Need-shape_of-raws-then-raws-s-ne0 invariant-loop decreases-loop
 same-length-3 c = long (head (at_piece c.before.before.before))
 
-returns-3 : tie.Need-returns-3 invariant-loop decreases-loop
+returns-3 : tie.Need-returns-then-raws-s-ne0 invariant-loop decreases-loop
 returns-3 c =
     let F = c.before.before.before in
     let P = at_piece F in
-    (at_twice (head P).loop.inv.0 _ _ _ (shape P) _ _ (place F) (so-many F) c.before.before.if1.false c.if2.true, λ z. no z)
+    (at_twice (head P).loop.inv.0 _ _ _ (shape P) _ _ (place F) (so-many F) c.before.before.if-j-count.false c.if-raws-s-ne0.true, λ z. no z)
 
 -- an attribute that is known and new
-module _ (c : tie.Else2 invariant-loop decreases-loop) where
-  abbrev new : tie.After-field-in invariant-loop decreases-loop
+module _ (c : tie.Else-raws-s-ne0 invariant-loop decreases-loop) where
+  abbrev new : tie.After-field_in-j invariant-loop decreases-loop
   new = c.before.before.before
 
   -- its raw bytes end within the page
   ends : ((at_piece new).piece2.given.0.1.1.0 ≤ (at_piece new).piece2.given.0.1.1.1.0) × ((at_piece new).piece2.given.0.1.1.1.0 < 1400)
   ends = let h = order (at_piece new) in (h.3, omega (arith, h.4, (entry (head (at_piece new))).pre.1))
 
-cast-raws : tie.Need-overflow-cast-raws invariant-loop decreases-loop
+cast-raws : tie.Need-overflow_cast-raws invariant-loop decreases-loop
 cast-raws c = let h = ends c in omega (arith, h.0, h.1)
 
-mul-raws : tie.Need-overflow-mul-raws invariant-loop decreases-loop
+mul-raws : tie.Need-offset_bounds-raws-s-in-Attribute invariant-loop decreases-loop
 mul-raws c = search rules
 
-slice-write-raws : tie.Need-slice-write-raws invariant-loop decreases-loop
-slice-write-raws c = omega (arith, lent (new c) c.before.before.if1.false)
+slice-write-raws : tie.Need-bounds-raws-s-in-Attribute invariant-loop decreases-loop
+slice-write-raws c = omega (arith, lent (new c) c.before.before.if-j-count.false)
 
-cast-raws-2 : tie.Need-overflow-cast-raws-2 invariant-loop decreases-loop
+cast-raws-2 : tie.Need-overflow_cast-raws-in-Attribute invariant-loop decreases-loop
 cast-raws-2 c = omega (arith, (ends c).1)
 
-add-raws : tie.Need-overflow-add-raws invariant-loop decreases-loop
+add-raws : tie.Need-overflow_add-raws invariant-loop decreases-loop
 add-raws c = search rules
 
-mul-raws-2 : tie.Need-overflow-mul-raws-2 invariant-loop decreases-loop
+mul-raws-2 : tie.Need-offset_bounds-raws-s-in-Attribute-2 invariant-loop decreases-loop
 mul-raws-2 c = search rules
 
-slice-write-raws-2 : tie.Need-slice-write-raws-2 invariant-loop decreases-loop
-slice-write-raws-2 c = rw (length-set) (lent (new c) c.before.before.if1.false)
+slice-write-raws-2 : tie.Need-bounds-raws-s-in-Attribute-2 invariant-loop decreases-loop
+slice-write-raws-2 c = rw (length-set) (lent (new c) c.before.before.if-j-count.false)
 
-add-i : tie.Need-overflow-add-i invariant-loop decreases-loop
+add-i : tie.Need-overflow_add-i invariant-loop decreases-loop
 add-i c = omega (arith, (ends c).1)
 
-loop-less : tie.Need-loop-smaller invariant-loop decreases-loop
+loop-less : tie.Need-loop-shut-smaller invariant-loop decreases-loop
 loop-less c = let h = order (at_piece (new c)) in omega (arith, h.0, h.1, h.2, h.3, h.4)
 
-loop-again : tie.Need-loop-preserved invariant-loop decreases-loop
+loop-again : tie.Need-loop-shut-preserved invariant-loop decreases-loop
 loop-again c =
     let F = new c in
     let P = at_piece F in
     let L = head P in
     let h = order P in (
-      at_next L.loop.inv.0 _ _ _ (shape P) _ _ (place F) (so-many F) c.before.before.if1.false c.if2.false _ _ refl refl (omega (arith, h.2)) h.3 h.4,
+      at_next L.loop.inv.0 _ _ _ (shape P) _ _ (place F) (so-many F) c.before.before.if-j-count.false c.if-raws-s-ne0.false _ _ refl refl (omega (arith, h.2)) h.3 h.4,
       put_long L.loop.raws _ _ _ ∙ L.loop.inv.1,
     )
 

@@ -5,16 +5,16 @@ use Rattle.sheet.specs.Fold.{closed}
 use Rattle.sheet.proofs.state.best_behind.Statement.{statement}
 use Rattle.sheet.proofs.state.best_behind.Tie as tie
 
-lower-of-requires : tie.Need-lower-of-requires
+lower-of-requires : tie.Need-lower_of-requires
 lower-of-requires c κs = search rules
 
-returns : tie.Need-returns
+returns : tie.Need-returns-then-st
 unfolding closed
 returns c = rw c.before.if1.true c.lower_of.ensures
 
-returns-2 : tie.Need-returns-2
+returns-2 : tie.Need-returns
 unfolding closed
-returns-2 c = rw c.before.if1.false
+returns-2 c = rw c.before.if-st.false
 
-pub best-behind-spec : {M : Type 1} → statement M
-best-behind-spec = tie.close (tie.spec lower-of-requires returns returns-2)
+pub best_behind_spec : {M : Type 1} → statement M
+best_behind_spec = tie.close (tie.spec lower-of-requires returns returns-2)

@@ -4,11 +4,11 @@ use borrow.Author.Tests.{eq-eqb, ne_eqb}
 use Rattle.sheet.proofs.state.came.Statement.{statement}
 use Rattle.sheet.proofs.state.came.Tie as tie
 
-returns : tie.Need-returns
-returns c = rw (eq-eqb _ _ c.if1.true)
+returns : tie.Need-returns-then-kind-wanted
+returns c = rw (eq-eqb _ _ c.if-kind-wanted.true)
 
-returns-2 : tie.Need-returns-2
-returns-2 c = rw (ne_eqb _ _ c.if1.false)
+returns-2 : tie.Need-returns
+returns-2 c = rw (ne_eqb _ _ c.if-kind-wanted.false)
 
-pub came-spec : {M : Type 1} → statement M
-came-spec = tie.close (tie.spec returns returns-2)
+pub came_spec : {M : Type 1} → statement M
+came_spec = tie.close (tie.spec returns returns-2)

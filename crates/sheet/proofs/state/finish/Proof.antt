@@ -5,20 +5,20 @@ use Rattle.sheet.specs.Fold.{finished}
 use Rattle.sheet.proofs.state.finish.Statement.{statement}
 use Rattle.sheet.proofs.state.finish.Tie as tie
 
-lower-of-requires : tie.Need-lower-of-requires
+lower-of-requires : tie.Need-lower_of-lacking-requires
 lower-of-requires c κs = search rules
 
-returns : tie.Need-returns
+returns : tie.Need-returns-then-st-2
 unfolding finished
-returns c = rw (c.before.before.if1.true, c.before.if2.true)
+returns c = rw (c.before.before.if-st.true, c.before.if-st-2.true)
 
-returns-2 : tie.Need-returns-2
+returns-2 : tie.Need-returns-then-st
 unfolding finished
-returns-2 c = rw (c.before.if1.true, c.if2.false) c.before.before.lower_of.ensures
+returns-2 c = rw (c.before.if-st.true, c.if-st-2.false) c.before.before.lower_of-lacking.ensures
 
-returns-3 : tie.Need-returns-3
+returns-3 : tie.Need-returns
 unfolding finished
-returns-3 c = rw c.if1.false c.before.lower_of.ensures
+returns-3 c = rw c.if-st.false c.before.lower_of-lacking.ensures
 
 pub finish_spec : {M : Type 1} → statement M
 finish_spec = tie.close (tie.spec lower-of-requires returns returns-2 returns-3)

@@ -10,14 +10,14 @@ use Rattle.sheet.proofs.state.kind_under.Tie as tie
 child-requires : tie.Need-child-requires
 child-requires c κs = search rules
 
-returns : tie.Need-returns
-returns c = (c.child.ensures.0 ∙ sym (ap code (kids_outside _ _ c.before.if1.true)), c.child.ensures.1)
+returns : tie.Need-returns-then-cur-eq0
+returns c = (c.child.ensures.0 ∙ sym (ap code (kids_outside _ _ c.before.if-cur-eq0.true)), c.child.ensures.1)
 
 child-requires-2 : tie.Need-child-requires-2
 child-requires-2 c κs = search rules
 
-returns-2 : tie.Need-returns-2
-returns-2 c = (c.child2.ensures.0 ∙ sym (ap code (kids_under _ _ c.before.before.before.requires c.before.if1.false)), c.child2.ensures.1)
+returns-2 : tie.Need-returns
+returns-2 c = (c.child-2.ensures.0 ∙ sym (ap code (kids_under _ _ c.before.before.before.requires c.before.if-cur-eq0.false)), c.child-2.ensures.1)
 
-pub kind-under-spec : {M : Type 1} → statement M
-kind-under-spec = tie.close (tie.spec child-requires returns child-requires-2 returns-2)
+pub kind_under_spec : {M : Type 1} → statement M
+kind_under_spec = tie.close (tie.spec child-requires returns child-requires-2 returns-2)

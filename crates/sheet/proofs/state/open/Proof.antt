@@ -8,27 +8,27 @@ use Rattle.sheet.proofs.StateLaws.{fourth}
 use Rattle.sheet.proofs.state.open.Statement.{statement}
 use Rattle.sheet.proofs.state.open.Tie as tie
 
-rank-with-requires : tie.Need-rank-with-requires
+rank-with-requires : tie.Need-rank_with-rank-requires
 rank-with-requires c κs = search rules
 
-came-requires : tie.Need-came-requires
+came-requires : tie.Need-came-person-requires
 came-requires c κs = search rules
 
-came-requires-2 : tie.Need-came-requires-2
+came-requires-2 : tie.Need-came-author-requires
 came-requires-2 c κs = search rules
 
-ws-with-requires : tie.Need-ws-with-requires
+ws-with-requires : tie.Need-ws_with-ws-requires
 ws-with-requires c κs =
     let S = c.before.before.before in
     (S.requires.1.few, λ e. fourth (st_of S.args.st) S.args.kind S.requires.2 e)
 
-place-with-requires : tie.Need-place-with-requires
+place-with-requires : tie.Need-place_with-from-requires
 place-with-requires c κs = search rules
 
-place-with-requires-2 : tie.Need-place-with-requires-2
+place-with-requires-2 : tie.Need-place_with-root-requires
 place-with-requires-2 c κs = search rules
 
-lower-of-requires : tie.Need-lower-of-requires
+lower-of-requires : tie.Need-lower_of-best-requires
 lower-of-requires c κs = search rules
 
 returns : tie.Need-returns
@@ -42,7 +42,7 @@ returns c =
     let R = P.before in
     let S = R.before in (
       λ l e f.
-          rw (code_back S.args.kind S.requires.0, ← e, ← f, ← R.rank-with.ensures, ← P.came.ensures, ← A.came2.ensures, ← W.ws-with.ensures.0, ← F.place-with.ensures, ← B.place-with2.ensures, ← c.lower_of.ensures),
+          rw (code_back S.args.kind S.requires.0, ← e, ← f, ← R.rank-with.ensures, ← P.came.ensures, ← A.came2.ensures, ← W.ws-with.ensures.0, ← F.place-with.ensures, ← B.place-with2.ensures, ← c.lower_of-best.ensures),
       record { known = S.requires.0; few = W.ws-with.ensures.1 },
     )
 

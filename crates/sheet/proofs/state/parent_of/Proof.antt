@@ -7,17 +7,17 @@ use Rattle.sheet.proofs.StateLaws.{parent_number}
 use Rattle.sheet.proofs.state.parent_of.Statement.{statement}
 use Rattle.sheet.proofs.state.parent_of.Tie as tie
 
-returns : tie.Need-returns
-returns c = (sym (parent_number _ c.before.requires ∙ rw (le-leb _ 1 c.if1.true)), omega arith)
+returns : tie.Need-returns-then-kind-le-MP
+returns c = (sym (parent_number _ c.before.requires ∙ rw (le-leb _ 1 c.if-kind-le-MP.true)), omega arith)
 
-returns-2 : tie.Need-returns-2
-returns-2 c = (sym (parent_number _ c.before.before.requires ∙ rw (lt-leb _ 1 c.before.if1.false, le-leb _ 5 c.if2.true)), omega arith)
+returns-2 : tie.Need-returns-then-kind-le-S
+returns-2 c = (sym (parent_number _ c.before.before.requires ∙ rw (lt-leb _ 1 c.before.if-kind-le-MP.false, le-leb _ 5 c.if-kind-le-S.true)), omega arith)
 
-returns-3 : tie.Need-returns-3
-returns-3 c = (sym (parent_number _ c.before.before.before.requires ∙ rw (lt-leb _ 1 c.before.before.if1.false, lt-leb _ 5 c.before.if2.false, eq-eqb _ 7 c.if3.true)), omega arith)
+returns-3 : tie.Need-returns-then-kind-eq-W
+returns-3 c = (sym (parent_number _ c.before.before.before.requires ∙ rw (lt-leb _ 1 c.before.before.if-kind-le-MP.false, lt-leb _ 5 c.before.if-kind-le-S.false, eq-eqb _ 7 c.if-kind-eq-W.true)), omega arith)
 
-returns-4 : tie.Need-returns-4
-returns-4 c = (sym (parent_number _ c.before.before.before.requires ∙ rw (lt-leb _ 1 c.before.before.if1.false, lt-leb _ 5 c.before.if2.false, ne_eqb _ 7 c.if3.false)), omega arith)
+returns-4 : tie.Need-returns
+returns-4 c = (sym (parent_number _ c.before.before.before.requires ∙ rw (lt-leb _ 1 c.before.before.if-kind-le-MP.false, lt-leb _ 5 c.before.if-kind-le-S.false, ne_eqb _ 7 c.if-kind-eq-W.false)), omega arith)
 
-pub parent-of-spec : {M : Type 1} → statement M
-parent-of-spec = tie.close (tie.spec returns returns-2 returns-3 returns-4)
+pub parent_of_spec : {M : Type 1} → statement M
+parent_of_spec = tie.close (tie.spec returns returns-2 returns-3 returns-4)

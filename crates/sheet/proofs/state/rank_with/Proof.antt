@@ -8,21 +8,21 @@ use Rattle.sheet.proofs.StateLaws.{rank_number}
 use Rattle.sheet.proofs.state.rank_with.Statement.{statement}
 use Rattle.sheet.proofs.state.rank_with.Tie as tie
 
-returns : tie.Need-returns
-returns c = let S = c.before in rw (rank_number S.args.kind S.requires, lt-leb 2 _ c.if1.true)
+returns : tie.Need-returns-then-kind-lt-P
+returns c = let S = c.before in rw (rank_number S.args.kind S.requires, lt-leb 2 _ c.if-kind-lt-P.true)
 
-returns-2 : tie.Need-returns-2
-returns-2 c = let S = c.before.before in rw (rank_number S.args.kind S.requires, le-leb 2 _ c.before.if1.false, lt-leb _ 5 c.if2.true)
+returns-2 : tie.Need-returns-then-kind-gt-S
+returns-2 c = let S = c.before.before in rw (rank_number S.args.kind S.requires, le-leb 2 _ c.before.if-kind-lt-P.false, lt-leb _ 5 c.if-kind-gt-S.true)
 
-sub-result : tie.Need-overflow-sub-result
+sub-result : tie.Need-overflow_sub-result
 sub-result c = search rules
 
-returns-3 : tie.Need-returns-3
+returns-3 : tie.Need-returns
 returns-3 c =
     let S = c.before.before in
-    let h = c.before.if1.false in
+    let h = c.before.if-kind-lt-P.false in
     let k = S.args.kind in
-    rw (rank_number k S.requires, le-leb 2 k h, le-leb k 5 c.if2.false, ne_eqb (k - 1) 0 (omega arith))
+    rw (rank_number k S.requires, le-leb 2 k h, le-leb k 5 c.if-kind-gt-S.false, ne_eqb (k - 1) 0 (omega arith))
 
-pub rank-with-spec : {M : Type 1} → statement M
-rank-with-spec = tie.close (tie.spec returns returns-2 sub-result returns-3)
+pub rank_with_spec : {M : Type 1} → statement M
+rank_with_spec = tie.close (tie.spec returns returns-2 sub-result returns-3)

@@ -23,52 +23,52 @@ element_fine S e j = let l = S.args.numbers.now in fine_element S.args.text.now 
 abbrev from_fields : tie.Start → Bool
 from_fields S = fine_from S.args.text.now 2 2 0 S.args.numbers.now && (element_fine S 2 2 && (element_fine S 3 10 && element_fine S 4 20))
 
-past-language : (c : tie.Else1) → let S = c.before.before.before.before in whole S ≡ from_fields S
+past-language : (c : tie.Else-numbers-eq0) → let S = c.before.before.before.before in whole S ≡ from_fields S
 unfolding fine_head kind_at count_of fields_of
-past-language c = rw (ne_eqb _ 0 c.if1.false)
+past-language c = rw (ne_eqb _ 0 c.if-numbers-eq0.false)
 
-past-fields : (c : tie.Else2) → let S = c.before.before.before.before.before.before in whole S ≡ (element_fine S 2 2 && (element_fine S 3 10 && element_fine S 4 20))
-past-fields c = let F = c.before in past-language F.before ∙ rw (sym F.fine-fields.ensures ∙ not-false _ c.if2.false)
+past-fields : (c : tie.Else-not-fine_fields) → let S = c.before.before.before.before.before.before in whole S ≡ (element_fine S 2 2 && (element_fine S 3 10 && element_fine S 4 20))
+past-fields c = let F = c.before in past-language F.before ∙ rw (sym F.fine_fields.ensures ∙ not-false _ c.if-not-fine_fields.false)
 
-past-person : (c : tie.Else3) → let S = c.before.before.before.before.before.before.before.before in whole S ≡ (element_fine S 3 10 && element_fine S 4 20)
-past-person c = let G = c.before in past-fields G.before ∙ rw (sym G.fine-element.ensures ∙ not-false _ c.if3.false)
+past-person : (c : tie.Else-not-fine_element) → let S = c.before.before.before.before.before.before.before.before in whole S ≡ (element_fine S 3 10 && element_fine S 4 20)
+past-person c = let G = c.before in past-fields G.before ∙ rw (sym G.fine_element.ensures ∙ not-false _ c.if-not-fine_element.false)
 
-past-author : (c : tie.Else4) → let S = c.before.before.before.before.before.before.before.before.before.before in whole S ≡ element_fine S 4 20
-past-author c = let H = c.before in past-person H.before ∙ rw (sym H.fine-element2.ensures ∙ not-false _ c.if4.false)
+past-author : (c : tie.Else-not-fine_element-2) → let S = c.before.before.before.before.before.before.before.before.before.before in whole S ≡ element_fine S 4 20
+past-author c = let H = c.before in past-person H.before ∙ rw (sym H.fine_element-2.ensures ∙ not-false _ c.if-not-fine_element-2.false)
 
-shared-slice-read-if1 : tie.Need-shared-slice-read-if1
+shared-slice-read-if1 : tie.Need-bounds-numbers-5
 shared-slice-read-if1 c = search rules
 
-returns : tie.Need-returns
+returns : tie.Need-returns-then-numbers-eq0
 unfolding fine_head
-returns c = rw (eq-eqb _ 0 c.if1.true)
+returns c = rw (eq-eqb _ 0 c.if-numbers-eq0.true)
 
-fine-fields-requires : tie.Need-fine-fields-requires
+fine-fields-requires : tie.Need-fine_fields-requires
 fine-fields-requires c κs = search rules
 
-returns-2 : tie.Need-returns-2
-returns-2 c = let F = c.before in sym (past-language F.before ∙ rw (sym F.fine-fields.ensures ∙ not-true _ c.if2.true))
+returns-2 : tie.Need-returns-then-not-fine_fields
+returns-2 c = let F = c.before in sym (past-language F.before ∙ rw (sym F.fine_fields.ensures ∙ not-true _ c.if-not-fine_fields.true))
 
-fine-element-requires : tie.Need-fine-element-requires
+fine-element-requires : tie.Need-fine_element-requires
 fine-element-requires c κs = let h = head_counts.0 in search rules
 
-returns-3 : tie.Need-returns-3
-returns-3 c = let G = c.before in sym (past-fields G.before ∙ rw (sym G.fine-element.ensures ∙ not-true _ c.if3.true))
+returns-3 : tie.Need-returns-then-not-fine_element
+returns-3 c = let G = c.before in sym (past-fields G.before ∙ rw (sym G.fine_element.ensures ∙ not-true _ c.if-not-fine_element.true))
 
-fine-element-requires-2 : tie.Need-fine-element-requires-2
+fine-element-requires-2 : tie.Need-fine_element-requires-2
 fine-element-requires-2 c κs = let h = head_counts.1 in search rules
 
-returns-4 : tie.Need-returns-4
-returns-4 c = let H = c.before in sym (past-person H.before ∙ rw (sym H.fine-element2.ensures ∙ not-true _ c.if4.true))
+returns-4 : tie.Need-returns-then-not-fine_element-2
+returns-4 c = let H = c.before in sym (past-person H.before ∙ rw (sym H.fine_element-2.ensures ∙ not-true _ c.if-not-fine_element-2.true))
 
-fine-element-requires-3 : tie.Need-fine-element-requires-3
+fine-element-requires-3 : tie.Need-fine_element-requires-3
 fine-element-requires-3 c κs = let h = head_counts.2 in search rules
 
-returns-5 : tie.Need-returns-5
-returns-5 c = c.fine-element3.ensures ∙ sym (past-author c.before)
+returns-5 : tie.Need-returns
+returns-5 c = c.fine_element-3.ensures ∙ sym (past-author c.before)
 
-pub fine-head-spec : {M : Type 1} → statement M
-fine-head-spec =
+pub fine_head_spec : {M : Type 1} → statement M
+fine_head_spec =
     tie.close
     (tie.spec
     shared-slice-read-if1

@@ -7,39 +7,39 @@ use borrow.Author.Rules.{rules}
 use Rattle.sound.proofs.records.last_w.Statement.{statement}
 use Rattle.sound.proofs.records.last_w.Tie as tie
 
-all-absent-requires : tie.Need-all-absent-requires
+all-absent-requires : tie.Need-all_absent-requires
 all-absent-requires c κs = search rules
 
-returns : tie.Need-returns
+returns : tie.Need-returns-then-not-all_absent
 unfolding last_w
-returns c = rw (sym c.before.all-absent.ensures ∙ not-true _ c.if1.true)
+returns c = rw (sym c.before.all_absent.ensures ∙ not-true _ c.if-not-all_absent.true)
 
-all-absent-requires-2 : tie.Need-all-absent-requires-2
+all-absent-requires-2 : tie.Need-all_absent-requires-2
 all-absent-requires-2 c κs = search rules
 
-returns-2 : tie.Need-returns-2
+returns-2 : tie.Need-returns-then-not-all_absent-2
 unfolding last_w
-returns-2 c = let B = c.before in rw (sym B.before.before.all-absent.ensures ∙ not-false _ B.before.if1.false, sym B.all-absent2.ensures ∙ not-true _ c.if2.true)
+returns-2 c = let B = c.before in rw (sym B.before.before.all_absent.ensures ∙ not-false _ B.before.if-not-all_absent.false, sym B.all_absent-2.ensures ∙ not-true _ c.if-not-all_absent-2.true)
 
-all-absent-requires-3 : tie.Need-all-absent-requires-3
+all-absent-requires-3 : tie.Need-all_absent-requires-3
 all-absent-requires-3 c κs = search rules
 
-returns-3 : tie.Need-returns-3
+returns-3 : tie.Need-returns-then-not-all_absent-3
 unfolding last_w
 returns-3 c =
     let D = c.before in
     let B = D.before.before in
-    rw (sym B.before.before.all-absent.ensures ∙ not-false _ B.before.if1.false, sym B.all-absent2.ensures ∙ not-false _ D.before.if2.false, sym D.all-absent3.ensures ∙ not-true _ c.if3.true)
+    rw (sym B.before.before.all_absent.ensures ∙ not-false _ B.before.if-not-all_absent.false, sym B.all_absent-2.ensures ∙ not-false _ D.before.if-not-all_absent-2.false, sym D.all_absent-3.ensures ∙ not-true _ c.if-not-all_absent-3.true)
 
-returns-4 : tie.Need-returns-4
+returns-4 : tie.Need-returns
 unfolding last_w
 returns-4 c =
     let D = c.before in
     let B = D.before.before in
-    rw (sym B.before.before.all-absent.ensures ∙ not-false _ B.before.if1.false, sym B.all-absent2.ensures ∙ not-false _ D.before.if2.false, sym D.all-absent3.ensures ∙ not-false _ c.if3.false)
+    rw (sym B.before.before.all_absent.ensures ∙ not-false _ B.before.if-not-all_absent.false, sym B.all_absent-2.ensures ∙ not-false _ D.before.if-not-all_absent-2.false, sym D.all_absent-3.ensures ∙ not-false _ c.if-not-all_absent-3.false)
 
-pub last-w-spec : {M : Type 1} → statement M
-last-w-spec =
+pub last_w_spec : {M : Type 1} → statement M
+last_w_spec =
     tie.close
     (tie.spec
     all-absent-requires

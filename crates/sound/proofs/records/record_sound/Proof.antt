@@ -14,88 +14,88 @@ use Rattle.sound.proofs.records.record_sound.Statement.{statement}
 use Rattle.sound.proofs.records.record_sound.Tie as tie
 
 -- the kind that the record shows
-shows : (K : tie.After-kind-of) (k : Kind) → K.kind-of.result ≡ k → kind_shown (get_or K.before.before.before.before.args.numbers.now 0 0) ≡ paper_kind k
-shows K k e = kind_is (get_or K.before.before.before.before.args.numbers.now 0 0) ∙ ap paper_kind (sym K.kind-of.ensures ∙ e)
+shows : (K : tie.After-kind_of-kind) (k : Kind) → K.kind_of-kind.result ≡ k → kind_shown (get_or K.before.before.before.before.args.numbers.now 0 0) ≡ paper_kind k
+shows K k e = kind_is (get_or K.before.before.before.before.args.numbers.now 0 0) ∙ ap paper_kind (sym K.kind_of-kind.ensures ∙ e)
 
-shared-slice-read-kind-of : tie.Need-shared-slice-read-kind-of
+shared-slice-read-kind-of : tie.Need-bounds-numbers-0
 shared-slice-read-kind-of c = search rules
 
-kind-of-requires : tie.Need-kind-of-requires
+kind-of-requires : tie.Need-kind_of-kind-requires
 kind-of-requires c κs = search rules
 
-enum_told : tie.Need-enum-told
+enum_told : tie.Need-enum_told-1
 enum_told c = search rules
 
-all-absent-requires : tie.Need-all-absent-requires
+all-absent-requires : tie.Need-all_absent-requires
 all-absent-requires c κs = search rules
 
-returns : tie.Need-returns
+returns : tie.Need-returns-then-all_absent
 returns c =
     let A = c.before in
     let K = A.before.before.before in
     let a = K.before.before.before.before.args in
-    sym (heading_is a.text.now a.numbers.now (shows K _ A.before.enum_told.given.1) ∙ rw (sym A.all-absent.ensures ∙ c.if1.true))
+    sym (heading_is a.text.now a.numbers.now (shows K _ A.before.enum_told-1.given.1) ∙ rw (sym A.all_absent.ensures ∙ c.if-all_absent.true))
 
-fine-plain-requires : tie.Need-fine-plain-requires
+fine-plain-requires : tie.Need-fine_plain-requires
 fine-plain-requires c κs = let h = row_counts.0 in search rules
 
-enum-told-2 : tie.Need-enum-told-2
+enum-told-2 : tie.Need-enum_told-in-Medication
 enum-told-2 c = search rules
 
-fine-medication-requires : tie.Need-fine-medication-requires
+fine-medication-requires : tie.Need-fine_medication-requires
 fine-medication-requires c κs = search rules
 
-enum-told-3 : tie.Need-enum-told-3
+enum-told-3 : tie.Need-enum_told-in-Recipe
 enum-told-3 c = search rules
 
-fine-plain-requires-2 : tie.Need-fine-plain-requires-2
+fine-plain-requires-2 : tie.Need-fine_plain-requires-in-Recipe
 fine-plain-requires-2 c κs = let h = row_counts.1 in search rules
 
-enum-told-4 : tie.Need-enum-told-4
+enum-told-4 : tie.Need-enum_told-in-Note
 enum-told-4 c = search rules
 
-fine-plain-requires-3 : tie.Need-fine-plain-requires-3
+fine-plain-requires-3 : tie.Need-fine_plain-requires-in-Note
 fine-plain-requires-3 c κs = let h = row_counts.2 in search rules
 
-enum-told-5 : tie.Need-enum-told-5
+enum-told-5 : tie.Need-enum_told-in-Unknown
 enum-told-5 c = search rules
 
-returns-2 : tie.Need-returns-2
+returns-2 : tie.Need-returns-else-all_absent
 unfolding kind_at
 returns-2 c =
     let A = c.before.before in
     let K = A.before.before.before in
     let a = K.before.before.before.before.args in
-    c.fine-plain.ensures ∙ sym (heading_is a.text.now a.numbers.now (shows K _ A.before.enum_told.given.1) ∙ rw (sym A.all-absent.ensures ∙ c.before.if1.false))
+    c.fine_plain.ensures ∙ sym (heading_is a.text.now a.numbers.now (shows K _ A.before.enum_told-1.given.1) ∙ rw (sym A.all_absent.ensures ∙ c.before.if-all_absent.false))
 
-returns-3 : tie.Need-returns-3
+returns-3 : tie.Need-returns-in-Medication
 returns-3 c =
     let K = c.before.before.before in
     let a = K.before.before.before.before.args in
-    c.fine-medication.ensures ∙ sym (medication_is a.text.now a.numbers.now (shows K _ c.before.enum-told2.given.1))
+    c.fine_medication.ensures ∙ sym (medication_is a.text.now a.numbers.now (shows K _ c.before.enum_told-in-Medication-1.given.1))
 
-returns-4 : tie.Need-returns-4
+returns-4 : tie.Need-returns-in-Recipe
 unfolding kind_at
 returns-4 c =
     let K = c.before.before.before in
     let a = K.before.before.before.before.args in
-    c.fine-plain2.ensures ∙ sym (recipe_is a.text.now a.numbers.now (shows K _ c.before.enum-told3.given.1))
+    c.fine_plain-in-Recipe.ensures ∙ sym (recipe_is a.text.now a.numbers.now (shows K _ c.before.enum_told-in-Recipe-1.given.1))
 
-returns-5 : tie.Need-returns-5
+returns-5 : tie.Need-returns-in-Note
 unfolding kind_at
 returns-5 c =
     let K = c.before.before.before in
     let a = K.before.before.before.before.args in
-    c.fine-plain3.ensures ∙ sym (note_is a.text.now a.numbers.now (shows K _ c.before.enum-told4.given.1))
+    c.fine_plain-in-Note.ensures ∙ sym (note_is a.text.now a.numbers.now (shows K _ c.before.enum_told-in-Note-1.given.1))
 
-returns-6 : tie.Need-returns-6
+returns-6 : tie.Need-returns-in-Unknown
 returns-6 c =
     let K = c.before.before in
     let a = K.before.before.before.before.args in
-    sym (unknown_is a.text.now a.numbers.now (shows K _ c.enum-told5.given.1))
+    sym (unknown_is a.text.now a.numbers.now (shows K _ c.enum_told-in-Unknown-1.given.1))
 
-pub record-sound-spec : {M : Type 1} → statement M
-record-sound-spec =
+pub record_sound_spec : {M : Type 1} → statement M
+record_sound_spec =
     tie.close
     (tie.spec
     shared-slice-read-kind-of

@@ -9,41 +9,41 @@ use borrow.Author.Rules.{rules}
 use Rattle.sound.proofs.values.fine_value.Statement.{statement}
 use Rattle.sound.proofs.values.fine_value.Tie as tie
 
-good-value-requires : tie.Need-good-value-requires
+good-value-requires : tie.Need-good_value-requires
 good-value-requires c κs = search rules
 
-returns : tie.Need-returns
+returns : tie.Need-returns-then-len-eq0
 returns c =
     let a = c.before.before.before.args in
-    fine_absent a.text.now (field_at a.id) a.at a.len c.before.if1.true _ c.good-value.ensures
+    fine_absent a.text.now (field_at a.id) a.at a.len c.before.if-len-eq0.true _ c.good_value.ensures
 
-wide-requires : tie.Need-wide-requires
+wide-requires : tie.Need-wide-from-requires
 wide-requires c κs = search rules
 
-wide-requires-2 : tie.Need-wide-requires-2
+wide-requires-2 : tie.Need-wide-requires
 wide-requires-2 c κs = search rules
 
-add-to : tie.Need-overflow-add-to
+add-to : tie.Need-overflow_add-to
 add-to c = search rules
 
-returns-2 : tie.Need-returns-2
+returns-2 : tie.Need-returns-then-to-text
 returns-2 c =
     let a = c.before.before.before.before.before.args in
-    fine_outside a.text.now (field_at a.id) a.at a.len c.before.before.before.if1.false (omega (arith, c.if2.true, c.before.before.wide.ensures, c.before.wide2.ensures))
+    fine_outside a.text.now (field_at a.id) a.at a.len c.before.before.before.if-len-eq0.false (omega (arith, c.if-to-text.true, c.before.before.wide-from.ensures, c.before.wide.ensures))
 
-good-value-requires-2 : tie.Need-good-value-requires-2
+good-value-requires-2 : tie.Need-good_value-requires-2
 good-value-requires-2 c κs = search rules
 
-returns-3 : tie.Need-returns-3
+returns-3 : tie.Need-returns
 returns-3 c =
     let a = c.before.before.before.before.before.before.args in
-    let w = c.before.before.before.wide.ensures in
-    let x = c.before.before.wide2.ensures in
-    let y = c.before.before.before.wide.result + c.before.before.wide2.result in
-    fine_inside a.text.now (field_at a.id) a.at a.len c.before.before.before.before.if1.false (omega (arith, c.before.if2.false, w, x)) _ y w (omega (arith, w, x)) _ c.good-value2.ensures
+    let w = c.before.before.before.wide-from.ensures in
+    let x = c.before.before.wide.ensures in
+    let y = c.before.before.before.wide-from.result + c.before.before.wide.result in
+    fine_inside a.text.now (field_at a.id) a.at a.len c.before.before.before.before.if-len-eq0.false (omega (arith, c.before.if-to-text.false, w, x)) _ y w (omega (arith, w, x)) _ c.good_value-2.ensures
 
-pub fine-value-spec : {M : Type 1} → statement M
-fine-value-spec =
+pub fine_value_spec : {M : Type 1} → statement M
+fine_value_spec =
     tie.close
     (tie.spec
     good-value-requires

@@ -9,17 +9,17 @@ use borrow.Author.Rules.{rules}
 use Rattle.sound.proofs.values.is_as_read.Statement.{statement}
 use Rattle.sound.proofs.values.is_as_read.Tie as tie
 
-ends-blank-requires : tie.Need-ends-blank-requires
+ends-blank-requires : tie.Need-ends_blank-requires
 ends-blank-requires c κs = search rules
 
-returns : tie.Need-returns
-returns c = blank_last (same (cut c.before.before.before.args.v.now) c.before.before.before.args.v.now) _ (sym c.before.ends-blank.ensures ∙ c.if1.true)
+returns : tie.Need-returns-then-ends_blank
+returns c = blank_last (same (cut c.before.before.before.args.v.now) c.before.before.before.args.v.now) _ (sym c.before.ends_blank.ensures ∙ c.if-ends_blank.true)
 
-is-zero-requires : tie.Need-is-zero-requires
+is-zero-requires : tie.Need-is_zero-requires
 is-zero-requires c κs = search rules
 
-returns-2 : tie.Need-returns-2
-returns-2 c = ap not c.is_zero.ensures ∙ unblank (same (cut c.before.before.before.before.args.v.now) c.before.before.before.before.args.v.now) _ (sym c.before.before.ends-blank.ensures ∙ c.before.if1.false)
+returns-2 : tie.Need-returns
+returns-2 c = ap not c.is_zero.ensures ∙ unblank (same (cut c.before.before.before.before.args.v.now) c.before.before.before.before.args.v.now) _ (sym c.before.before.ends_blank.ensures ∙ c.before.if-ends_blank.false)
 
-pub is-as-read-spec : {M : Type 1} → statement M
-is-as-read-spec = tie.close (tie.spec ends-blank-requires returns is-zero-requires returns-2)
+pub is_as_read_spec : {M : Type 1} → statement M
+is_as_read_spec = tie.close (tie.spec ends-blank-requires returns is-zero-requires returns-2)

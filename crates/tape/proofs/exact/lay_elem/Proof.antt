@@ -13,61 +13,61 @@ use Rattle.tape.proofs.exact.lay_elem.Statement.{statement}
 use Rattle.tape.proofs.exact.lay_elem.Tie as tie
 
 -- where the call began
-abbrev entry : tie.After-count-of → tie.Start
+abbrev entry : tie.After-count_of → tie.Start
 entry c = c.before.before.before.before.before
 
-add-next : tie.Need-overflow-add-next
+add-next : tie.Need-overflow_add-next
 add-next c = search rules
 
-count-of-requires : tie.Need-count-of-requires
+count-of-requires : tie.Need-count_of-requires
 count-of-requires c κs = search rules
 
-mul_next : tie.Need-overflow-mul-next
+mul_next : tie.Need-overflow_mul-next
 mul_next c = search rules
 
-add-next-2 : tie.Need-overflow-add-next-2
+add-next-2 : tie.Need-overflow_add-next-2
 add-next-2 c = search rules
 
-mul-tape : tie.Need-overflow-mul-tape
+mul-tape : tie.Need-offset_bounds-tape-first
 mul-tape c = search rules
 
-slice-write-tape : tie.Need-slice-write-tape
+slice-write-tape : tie.Need-bounds-tape-first
 slice-write-tape c = search rules
 
-cast-tape : tie.Need-overflow-cast-tape
+cast-tape : tie.Need-overflow_cast-tape-2
 cast-tape c = search rules
 
-add-tape : tie.Need-overflow-add-tape
+add-tape : tie.Need-overflow_add-tape
 add-tape c = search rules
 
-mul-tape-2 : tie.Need-overflow-mul-tape-2
+mul-tape-2 : tie.Need-offset_bounds-tape-first-2
 mul-tape-2 c = search rules
 
-slice-write-tape-2 : tie.Need-slice-write-tape-2
+slice-write-tape-2 : tie.Need-bounds-tape-first-2
 slice-write-tape-2 c = simp length-set (omega (arith, (entry c).requires.5))
 
-cast-tape-2 : tie.Need-overflow-cast-tape-2
+cast-tape-2 : tie.Need-overflow_cast-tape-3
 cast-tape-2 c = search rules
 
-add-tape-2 : tie.Need-overflow-add-tape-2
+add-tape-2 : tie.Need-overflow_add-tape-2
 add-tape-2 c = search rules
 
-mul-tape-3 : tie.Need-overflow-mul-tape-3
+mul-tape-3 : tie.Need-offset_bounds-tape-first-3
 mul-tape-3 c = search rules
 
-slice-write-tape-3 : tie.Need-slice-write-tape-3
+slice-write-tape-3 : tie.Need-bounds-tape-first-3
 slice-write-tape-3 c = simp length-set (omega (arith, (entry c).requires.5))
 
-add-lay-slots : tie.Need-overflow-add-lay-slots
+add-lay-slots : tie.Need-overflow_add-first
 add-lay-slots c = search rules
 
-lay-slots-requires : tie.Need-lay-slots-requires
+lay-slots-requires : tie.Need-lay_slots-m-requires
 lay-slots-requires c κs = let p = (entry c.before.before).requires in (p.0, p.1, p.3, p.4, simp length-set (omega (arith, p.5)), p.7, p.8)
 
-same_length : tie.Need-same-length
-same_length c = c.before.before.before.before.lay-slots.auto.1.1.1.0 ∙ simp length-set refl
+same_length : tie.Need-shape_of-tape
+same_length c = c.before.before.before.before.lay_slots-m.auto.1.1.1.0 ∙ simp length-set refl
 
-same-length-2 : tie.Need-same-length-2
+same-length-2 : tie.Need-shape_of-side
 same-length-2 c = search rules
 
 returns : tie.Need-returns
@@ -78,10 +78,10 @@ returns c =
     let a = S.args in
     let k = kind_at a.kind in
     let n = C.count_of.ensures.0 in
-    elem_laid k a.place a.first _ a.kind (sym (code_back a.kind S.pre.1)) (omega (arith, n, count_is k)) (omega (arith, n, S.pre.5)) (told_long a.page.now k a.raws.now ∙ count_is k) X.lay-slots.ensures
+    elem_laid k a.place a.first _ a.kind (sym (code_back a.kind S.pre.1)) (omega (arith, n, count_is k)) (omega (arith, n, S.pre.5)) (told_long a.page.now k a.raws.now ∙ count_is k) X.lay_slots-m.ensures
 
-pub lay-elem-spec : {M : Type 1} → statement M
-lay-elem-spec =
+pub lay_elem_spec : {M : Type 1} → statement M
+lay_elem_spec =
     tie.close
     (tie.spec
     add-next

@@ -59,48 +59,48 @@ begin b = go (eqb b 77)
     go true = refl
     go false = refl
 
-abbrev invariant-loop : tie.invariant-loop
+abbrev invariant-loop : tie.invariant-loop-i
 invariant-loop b letters₀ i₀ i = (i ≤ 8) × (kind_named (b ∷ []) ≡ named (b ∷ []) (drop (i + 2) kinds))
 
-abbrev decreases-loop : tie.decreases-loop
+abbrev decreases-loop : tie.decreases-loop-i
 decreases-loop b letters₀ i₀ i = 8 - i
 
-loop-holds : tie.Need-loop-init invariant-loop decreases-loop
+loop-holds : tie.Need-loop-i-init invariant-loop decreases-loop
 loop-holds c = (search rules, begin c.args.b)
 
-array-read-if1 : tie.Need-array-read-if1 invariant-loop decreases-loop
+array-read-if1 : tie.Need-bounds-letters-i invariant-loop decreases-loop
 array-read-if1 c = search rules
 
-cast-result : tie.Need-overflow-cast-result invariant-loop decreases-loop
+cast-result : tie.Need-overflow_cast-result invariant-loop decreases-loop
 cast-result c = search rules
 
-add-result : tie.Need-overflow-add-result invariant-loop decreases-loop
+add-result : tie.Need-overflow_add-result invariant-loop decreases-loop
 add-result c = search rules
 
-returns : tie.Need-returns invariant-loop decreases-loop
+returns : tie.Need-returns-then-letters-i invariant-loop decreases-loop
 returns c =
     let L = c.before.before in
-    (sym (ap code L.loop.invariant.1 ∙ here L.before.args.b L.loop.i c.before.loop-test.true c.if1.true), omega arith)
+    (sym (ap code L.loop-i.invariant.1 ∙ here L.before.args.b L.loop-i.i c.before.loop-i-test.true c.if-letters-i.true), omega arith)
 
-add-i : tie.Need-overflow-add-i invariant-loop decreases-loop
+add-i : tie.Need-overflow_add-i invariant-loop decreases-loop
 add-i c = search rules
 
-loop-less : tie.Need-loop-smaller invariant-loop decreases-loop
+loop-less : tie.Need-loop-i-smaller invariant-loop decreases-loop
 loop-less c = search rules
 
-loop-again : tie.Need-loop-preserved invariant-loop decreases-loop
+loop-again : tie.Need-loop-i-preserved invariant-loop decreases-loop
 loop-again c =
     let L = c.before.before in
-    (omega arith, L.loop.invariant.1 ∙ past L.before.args.b L.loop.i c.before.loop-test.true c.if1.false)
+    (omega arith, L.loop-i.invariant.1 ∙ past L.before.args.b L.loop-i.i c.before.loop-i-test.true c.if-letters-i.false)
 
-returns-2 : tie.Need-returns-2 invariant-loop decreases-loop
+returns-2 : tie.Need-returns invariant-loop decreases-loop
 returns-2 c =
     let L = c.before in
-    let e : L.loop.i ≡ 8 = omega arith in
-    (sym (ap code L.loop.invariant.1 ∙ ap (λ (j : ℕ). code (named (L.before.args.b ∷ []) (drop (j + 2) kinds))) e), omega arith)
+    let e : L.loop-i.i ≡ 8 = omega arith in
+    (sym (ap code L.loop-i.invariant.1 ∙ ap (λ (j : ℕ). code (named (L.before.args.b ∷ []) (drop (j + 2) kinds))) e), omega arith)
 
-pub kind-lettered-spec : {M : Type 1} → statement M
-kind-lettered-spec =
+pub kind_lettered_spec : {M : Type 1} → statement M
+kind_lettered_spec =
     tie.close
     (tie.spec
     invariant-loop

@@ -35,50 +35,46 @@ unlettered n h (k ∷ ks) e = let (a, b) = both (lettered k) (every lettered ks)
     go true s a ih = absurd (h (ap length (same_eq n (tag_name k) s) ∙ eqb-true (length (tag_name k)) 1 a))
     go false s a ih = ih
 
-sub-if1 : tie.Need-overflow-sub-if1
+sub-if1 : tie.Need-overflow_sub-to
 sub-if1 c = search rules
 
-shared-slice-read-kind-lettered : tie.Need-shared-slice-read-kind-lettered
+shared-slice-read-kind-lettered : tie.Need-bounds-page-from
 shared-slice-read-kind-lettered c = search rules
 
-kind-lettered-requires : tie.Need-kind-lettered-requires
+kind-lettered-requires : tie.Need-kind_lettered-requires
 kind-lettered-requires c κs = search rules
 
-returns : tie.Need-returns
+returns : tie.Need-returns-then-to-from-eq1
 returns c =
     let B = c.before.before in
     let S = B.before.before in
-    let e = one S.args.page.now S.args.from S.args.to B.if1.true S.requires.1 in
-    (c.kind-lettered.ensures.0 ∙ sym (ap (λ (n : List ℕ). code (kind_named n)) e), c.kind-lettered.ensures.1)
-
-slice-aggregate-spells : tie.Need-slice-aggregate-spells
-slice-aggregate-spells c = search rules
+    let e = one S.args.page.now S.args.from S.args.to B.if-to-from-eq1.true S.requires.1 in
+    (c.kind_lettered.ensures.0 ∙ sym (ap (λ (n : List ℕ). code (kind_named n)) e), c.kind_lettered.ensures.1)
 
 spells-requires : tie.Need-spells-requires
 spells-requires c κs = search rules
 
-returns-2 : tie.Need-returns-2
+returns-2 : tie.Need-returns-then-spells
 unfolding kind_named
-returns-2 c = (rw (sym c.before.spells.ensures ∙ c.if2.true), omega arith)
+returns-2 c = (rw (sym c.before.spells.ensures ∙ c.if-spells.true), omega arith)
 
-returns-3 : tie.Need-returns-3
+returns-3 : tie.Need-returns
 unfolding kind_named
 returns-3 c =
     let B = c.before.before.before in
     let S = B.before.before in
     let a = S.args in
     let l = length-slice a.from a.to a.page.now S.requires.1 in
-    (rw (sym c.before.spells.ensures ∙ c.if2.false) (sym (ap code (unlettered (slice a.from a.to a.page.now) (λ e. B.if1.false (sym l ∙ e)) (drop 2 kinds) refl))), omega arith)
+    (rw (sym c.before.spells.ensures ∙ c.if-spells.false) (sym (ap code (unlettered (slice a.from a.to a.page.now) (λ e. B.if1.false (sym l ∙ e)) (drop 2 kinds) refl))), omega arith)
 
-pub kind-named-spec : {M : Type 1} → statement M
-kind-named-spec =
+pub kind_named_spec : {M : Type 1} → statement M
+kind_named_spec =
     tie.close
     (tie.spec
     sub-if1
     shared-slice-read-kind-lettered
     kind-lettered-requires
     returns
-    slice-aggregate-spells
     spells-requires
     returns-2
     returns-3)

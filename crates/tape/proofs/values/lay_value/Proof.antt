@@ -15,54 +15,54 @@ use Rattle.tape.proofs.values.lay_value.Statement.{statement}
 use Rattle.tape.proofs.values.lay_value.Tie as tie
 
 -- where the call began
-abbrev entry : tie.After-decode → tie.Start
+abbrev entry : tie.After-decode-k → tie.Start
 entry D = D.before.before.before.before
 
 -- the raw bytes of the value
-abbrev raw : tie.After-decode → List ℕ
+abbrev raw : tie.After-decode-k → List ℕ
 raw D = let a = (entry D).args in slice a.from a.to a.page.now
 
 -- what was decoded stands in the scratch
-decoded : (c : tie.After-decode) → take c.decode.result c.decode.new.1.1.1.0 ≡ value (raw c)
-decoded c = front _ _ _ _ c.decode.ensures.0 c.decode.ensures.2
+decoded : (c : tie.After-decode-k) → take c.decode-k.result c.decode-k.new.1.1.1.0 ≡ value (raw c)
+decoded c = front _ _ _ _ c.decode-k.ensures.0 c.decode-k.ensures.2
 
 -- it counts as it is
-counts : (c : tie.Else1) → let D = c.before.before.before.before.before in take D.decode.result D.decode.new.1.1.1.0 ≡ settled (entry D).args.id (raw D)
+counts : (c : tie.Else-is_zero) → let D = c.before.before.before.before.before in take D.decode-k.result D.decode-k.new.1.1.1.0 ≡ settled (entry D).args.id (raw D)
 counts c =
     let R = c.before.before.before in
     let D = R.before.before in
-    decoded D ∙ sym (whole_value (entry D).args.id R.rule-of.result (raw D) _ R.rule-of.ensures (decoded D) (sym c.before.is_zero.ensures ∙ c.if1.false))
+    decoded D ∙ sym (whole_value (entry D).args.id R.rule_of-rule.result (raw D) _ R.rule_of-rule.ensures (decoded D) (sym c.before.is_zero.ensures ∙ c.if-is_zero.false))
 
-slice-aggregate-decode : tie.Need-slice-aggregate-decode
+slice-aggregate-decode : tie.Need-slice_bounds-decode-end
 slice-aggregate-decode c = search rules
 
-decode-requires : tie.Need-decode-requires
+decode-requires : tie.Need-decode-k-requires
 decode-requires c κs = search rules
 
-rule-of-requires : tie.Need-rule-of-requires
+rule-of-requires : tie.Need-rule_of-rule-requires
 rule-of-requires c κs = search rules
 
-array-share-prefix-scratch : tie.Need-array-share-prefix-scratch
+array-share-prefix-scratch : tie.Need-slice_bounds-scratch-end
 array-share-prefix-scratch c = search rules
 
-slice-aggregate-is-zero : tie.Need-slice-aggregate-is-zero
+slice-aggregate-is-zero : tie.Need-slice_bounds-is_zero-end
 slice-aggregate-is-zero c = sym (length-take-le _ _ (array-share-prefix-scratch c.before))
 
-is-zero-requires : tie.Need-is-zero-requires
+is-zero-requires : tie.Need-is_zero-requires
 is-zero-requires c κs = search rules
 
-returns : tie.Need-returns
+returns : tie.Need-returns-then-is_zero
 returns c =
     let R = c.before.before.before in
     let D = R.before.before in
     let a = (entry D).args in
-    let z = zero_value a.id R.rule-of.result (raw D) _ R.rule-of.ensures (decoded D) (sym c.before.is_zero.ensures ∙ c.if1.true) in
+    let z = zero_value a.id R.rule_of-rule.result (raw D) _ R.rule_of-rule.ensures (decoded D) (sym c.before.is_zero.ensures ∙ c.if-is_zero.true) in
     (rw (z) (sym (add-zero a.n)), rw (z) (sym (laid_none a.room.now a.n)))
 
-array-share-prefix-scratch-2 : tie.Need-array-share-prefix-scratch-2
+array-share-prefix-scratch-2 : tie.Need-slice_bounds-scratch-end-2
 array-share-prefix-scratch-2 c = search rules
 
-slice-aggregate-lay : tie.Need-slice-aggregate-lay
+slice-aggregate-lay : tie.Need-slice_bounds-lay-end
 slice-aggregate-lay c = sym (length-take-le _ _ (array-share-prefix-scratch-2 c.before))
 
 lay-requires : tie.Need-lay-requires
@@ -71,18 +71,18 @@ lay-requires c κs =
     let S = entry E.before.before.before.before.before in
     subst (λ (v : List ℕ). S.args.n + length v ≤ length S.args.room.now) (sym (counts E)) S.pre.4
 
-same_length : tie.Need-same-length
+same_length : tie.Need-shape_of-room
 same_length c = search rules
 
-returns-2 : tie.Need-returns-2
+returns-2 : tie.Need-returns
 returns-2 c =
     let L = c.before.before in
     let E = L.before.before.before in
     let a = (entry E.before.before.before.before.before).args in
     (L.lay.ensures.0 ∙ ap (λ (v : List ℕ). a.n + length v) (counts E), L.lay.ensures.1 ∙ ap (laid a.room.now a.n) (counts E))
 
-pub lay-value-spec : {M : Type 1} → statement M
-lay-value-spec =
+pub lay_value_spec : {M : Type 1} → statement M
+lay_value_spec =
     tie.close
     (tie.spec
     slice-aggregate-decode

@@ -13,63 +13,63 @@ use Rattle.tollgilt.proofs.cells.lay_cell.Statement.{statement}
 use Rattle.tollgilt.proofs.cells.lay_cell.Tie as tie
 
 -- what the cell shows: the values that document 01 gives it
-values-are : (K : tie.After-a) → let A = K.before.before in let a = A.before.before.before.before.before.args in
-    values_of (Shown K.a.given.0.0) ≡ values_at a.rows.now a.count a.text.now a.catalogue.now a.row a.field a.which
-values-are K = ap values_of (sym K.a.given.1) ∙ K.before.before.cell-answer.ensures
+values-are : (K : tie.In-Shown-2) → let A = K.before.before in let a = A.before.before.before.before.before.args in
+    values_of (Shown K.a-1.given.0.0) ≡ values_at a.rows.now a.count a.text.now a.catalogue.now a.row a.field a.which
+values-are K = ap values_of (sym K.a-1.given.1) ∙ K.before.before.cell_answer-a.ensures
 
 -- the slice has the cell's text
-text-is : (T : tie.After-cell-text) → let a = T.before.before.before.before.before.before.before.before.before.before.args in
-    T.cell-text.result.now ≡ text_of (cell_at a.rows.now a.count a.text.now a.catalogue.now a.row a.field a.which)
+text-is : (T : tie.After-cell_text-shown) → let a = T.before.before.before.before.before.before.before.before.before.before.args in
+    T.cell_text-shown.result.now ≡ text_of (cell_at a.rows.now a.count a.text.now a.catalogue.now a.row a.field a.which)
 text-is T =
     let K = T.before.before.before in
     let a = K.before.before.before.before.before.before.before.args in
-    (part_of a.rows.now a.count a.text a.catalogue a.row a.field a.which (Shown K.a.given.0.0) T.cell-text.result (record { answer_is = values-are K; text-is = T.cell-text.ensures })).2
+    (part_of a.rows.now a.count a.text a.catalogue a.row a.field a.which (Shown K.a-1.given.0.0) T.cell_text-shown.result (record { answer_is = values-are K; text-is = T.cell_text-shown.ensures })).2
 
-cell-answer-requires : tie.Need-cell-answer-requires
+cell-answer-requires : tie.Need-cell_answer-a-requires
 cell-answer-requires c κs = search rules
 
-enum-known-a : tie.Need-enum-known-a
+enum-known-a : tie.Need-enum_known-a
 enum-known-a c = search rules
 
-source-number-requires : tie.Need-source-number-requires
+source-number-requires : tie.Need-source_number-from-requires
 source-number-requires c κs = search rules
 
-cell-text-requires : tie.Need-cell-text-requires
+cell-text-requires : tie.Need-cell_text-shown-requires
 cell-text-requires c κs = search rules
 
-lay-requires : tie.Need-lay-requires
+lay-requires : tie.Need-lay-length-requires
 lay-requires c κs =
     let T = c.before in
     let S = T.before.before.before.before.before.before.before.before.before.before in
     omega (arith, S.requires, ap length (text-is T))
 
-enum_told : tie.Need-enum-told
+enum_told : tie.Need-enum_told-1
 enum_told c = search rules
 
 refused-requires : tie.Need-refused-requires
 refused-requires c κs = search rules
 
-same_length : tie.Need-same-length
+same_length : tie.Need-shape_of-out
 same_length c = search rules
 
-returns : tie.Need-returns
+returns : tie.Need-returns-in-Shown
 returns c =
     let L = c.before.before in
     let T = L.before.before in
     let K = T.before.before.before in
     let a = K.before.before.before.before.before.before.before.args in
-    laid_cell a.rows.now a.count a.text.now a.catalogue.now a.row a.field a.which K.a.given.0.0 (values-are K) T.cell-text.result.now a.out.now (text-is T)
-    _ _ _ T.before.source-number.ensures L.lay.ensures
+    laid_cell a.rows.now a.count a.text.now a.catalogue.now a.row a.field a.which K.a-1.given.0.0 (values-are K) T.cell_text-shown.result.now a.out.now (text-is T)
+    _ _ _ T.before.source_number-from.ensures L.lay-length.ensures
 
-returns-2 : tie.Need-returns-2
+returns-2 : tie.Need-returns-in-NoCell
 returns-2 c =
     let E = c.before in
     let A = E.before.before in
     let a = A.before.before.before.before.before.args in
-    no_such_cell a.rows.now a.count a.text.now a.catalogue.now a.row a.field a.which (ap values_of (sym E.enum_told.given.1) ∙ A.cell-answer.ensures) a.out.now _ c.refused.ensures
+    no_such_cell a.rows.now a.count a.text.now a.catalogue.now a.row a.field a.which (ap values_of (sym E.enum_told-1.given.1) ∙ A.cell_answer-a.ensures) a.out.now _ c.refused.ensures
 
-pub lay-cell-spec : {M : Type 1} → statement M
-lay-cell-spec =
+pub lay_cell_spec : {M : Type 1} → statement M
+lay_cell_spec =
     tie.close
     (tie.spec
     cell-answer-requires

@@ -13,62 +13,62 @@ use Rattle.tollgilt.proofs.input.cell_input.Statement.{statement}
 use Rattle.tollgilt.proofs.input.cell_input.Tie as tie
 
 -- the number that the input asks for
-asked-at : (c : tie.After-known-told) → let S = c.before.before.before.before.before.before.before in AsksFor S.args.input.now c.before.asked.given.0.0 c.before.asked.given.0.1.0
-asked-at c = subst (λ (q : Question). Asks c.before.before.before.before.before.before.before.args.input.now q) c.before.asked.given.1 c.before.before.before.asked-for.ensures
+asked-at : (c : tie.In-Of) → let S = c.before.before.before.before.before.before.before in AsksFor S.args.input.now c.before.asked-1.given.0.0 c.before.asked-1.given.0.1.0
+asked-at c = subst (λ (q : Question). Asks c.before.before.before.before.before.before.before.args.input.now q) c.before.asked-1.given.1 c.before.before.before.asked_for-asked.ensures
 
-returns : tie.Need-returns
+returns : tie.Need-returns-then-out-lt-CELL_LINES
 returns c =
     let s = c.before.before.before in
-    none_printed s.args.out.now (cell_no_room s.args.out.now s.args.input.now c.if1.true)
+    none_printed s.args.out.now (cell_no_room s.args.out.now s.args.input.now c.if-out-lt-CELL_LINES.true)
 
-asked-for-requires : tie.Need-asked-for-requires
+asked-for-requires : tie.Need-asked_for-asked-requires
 asked-for-requires c κs = search rules
 
-enum_told : tie.Need-enum-told
+enum_told : tie.Need-enum_told-1
 enum_told c = search rules
 
-list-refusal-requires : tie.Need-list-refusal-requires
-list-refusal-requires c κs = omega (arith, refusal_short 1 0 0, c.before.before.before.before.if1.false)
+list-refusal-requires : tie.Need-list_refusal-length-requires
+list-refusal-requires c κs = omega (arith, refusal_short 1 0 0, c.before.before.before.before.if-out-lt-CELL_LINES.false)
 
-enum-known-asked : tie.Need-enum-known-asked
+enum-known-asked : tie.Need-enum_known-asked
 enum-known-asked c = search rules
 
-sub-field-asked : tie.Need-overflow-sub-field-asked
+sub-field-asked : tie.Need-slice_bounds-field_asked-count
 sub-field-asked c = (asked-at c).inside
 
-part-field-asked-start : tie.Need-slice-bounds-field-asked-start
+part-field-asked-start : tie.Need-slice_bounds-field_asked-start
 part-field-asked-start c = (asked-at c).inside
 
-part-field-asked-end : tie.Need-slice-bounds-field-asked-end
+part-field-asked-end : tie.Need-slice_bounds-field_asked-end
 part-field-asked-end c = search rules
 
-field-asked-requires : tie.Need-field-asked-requires
+field-asked-requires : tie.Need-field_asked-length-requires
 field-asked-requires c κs = search rules
 
-same_length : tie.Need-same-length
+same_length : tie.Need-shape_of-out-in-None
 same_length c = search rules
 
-returns-2 : tie.Need-returns-2
+returns-2 : tie.Need-returns-in-None
 returns-2 c =
     let R = c.before.before in
     let E = R.before.before.before.before.before in
     let S = E.before.before.before in
-    cell_printed_lem S.args.out.now S.args.input.now _ E.if1.false
-    (asked_none behind_row S.args.input.now (subst (λ (q : Question). Asks S.args.input.now q) R.before.before.enum_told.given.1 R.before.before.before.before.asked-for.ensures)) _ _ R.list-refusal.ensures
+    cell_printed_lem S.args.out.now S.args.input.now _ E.if-out-lt-CELL_LINES.false
+    (asked_none behind_row S.args.input.now (subst (λ (q : Question). Asks S.args.input.now q) R.before.before.enum_told-1.given.1 R.before.before.before.before.asked_for-asked.ensures)) _ _ R.list_refusal-length.ensures
 
-same-length-2 : tie.Need-same-length-2
+same-length-2 : tie.Need-shape_of-out-in-Of
 same-length-2 c = search rules
 
-returns-3 : tie.Need-returns-3
+returns-3 : tie.Need-returns-in-Of
 returns-3 c =
     let F = c.before.before in
     let K = F.before.before.before in
     let E = K.before.before.before.before in
     let S = E.before.before.before in
-    cell_printed_lem S.args.out.now S.args.input.now _ E.if1.false (asked_one behind_row S.args.input.now _ _ (asked-at K)) _ _ F.field-asked.ensures
+    cell_printed_lem S.args.out.now S.args.input.now _ E.if-out-lt-CELL_LINES.false (asked_one behind_row S.args.input.now _ _ (asked-at K)) _ _ F.field_asked-length.ensures
 
-pub cell-input-spec : {M : Type 1} → statement M
-cell-input-spec =
+pub cell_input_spec : {M : Type 1} → statement M
+cell_input_spec =
     tie.close
     (tie.spec
     returns

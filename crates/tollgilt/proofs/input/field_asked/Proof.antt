@@ -11,55 +11,55 @@ use Rattle.tollgilt.proofs.input.field_asked.Statement.{statement}
 use Rattle.tollgilt.proofs.input.field_asked.Tie as tie
 
 -- the number that the input asks for
-asked-at : (c : tie.After-known-told) → let S = c.before.before.before.before.before.before in AsksFor S.args.input.now c.before.asked.given.0.0 c.before.asked.given.0.1.0
-asked-at c = subst (λ (q : Question). Asks c.before.before.before.before.before.before.args.input.now q) c.before.asked.given.1 c.before.before.before.asked-for.ensures
+asked-at : (c : tie.In-Of) → let S = c.before.before.before.before.before.before in AsksFor S.args.input.now c.before.asked-1.given.0.0 c.before.asked-1.given.0.1.0
+asked-at c = subst (λ (q : Question). Asks c.before.before.before.before.before.before.args.input.now q) c.before.asked-1.given.1 c.before.before.before.asked_for-asked.ensures
 
-asked-for-requires : tie.Need-asked-for-requires
+asked-for-requires : tie.Need-asked_for-asked-requires
 asked-for-requires c κs = search rules
 
-enum_told : tie.Need-enum-told
+enum_told : tie.Need-enum_told-1
 enum_told c = search rules
 
-list-refusal-requires : tie.Need-list-refusal-requires
+list-refusal-requires : tie.Need-list_refusal-requires
 list-refusal-requires c κs = omega (arith, refusal_short 1 0 0, c.before.before.before.before.before.before.requires)
 
-enum-known-asked : tie.Need-enum-known-asked
+enum-known-asked : tie.Need-enum_known-asked
 enum-known-asked c = search rules
 
-sub-third-asked : tie.Need-overflow-sub-third-asked
+sub-third-asked : tie.Need-slice_bounds-third_asked-count
 sub-third-asked c = (asked-at c).inside
 
-part-third-asked-start : tie.Need-slice-bounds-third-asked-start
+part-third-asked-start : tie.Need-slice_bounds-third_asked-start
 part-third-asked-start c = (asked-at c).inside
 
-part-third-asked-end : tie.Need-slice-bounds-third-asked-end
+part-third-asked-end : tie.Need-slice_bounds-third_asked-end
 part-third-asked-end c = search rules
 
-third-asked-requires : tie.Need-third-asked-requires
+third-asked-requires : tie.Need-third_asked-requires
 third-asked-requires c κs = search rules
 
-same_length : tie.Need-same-length
+same_length : tie.Need-shape_of-out-in-None
 same_length c = search rules
 
-returns : tie.Need-returns
+returns : tie.Need-returns-in-None
 returns c =
     let R = c.before.before in
     let S = R.before.before.before.before.before.before.before in
-    bytes_as (asked_none (λ n. asked (cell_behind S.args.row n)) S.args.input.now (subst (λ (q : Question). Asks S.args.input.now q) R.before.before.enum_told.given.1 R.before.before.before.before.asked-for.ensures))
-    S.args.out.now _ _ R.list-refusal.ensures
+    bytes_as (asked_none (λ n. asked (cell_behind S.args.row n)) S.args.input.now (subst (λ (q : Question). Asks S.args.input.now q) R.before.before.enum_told-1.given.1 R.before.before.before.before.asked_for-asked.ensures))
+    S.args.out.now _ _ R.list_refusal.ensures
 
-same-length-2 : tie.Need-same-length-2
+same-length-2 : tie.Need-shape_of-out-in-Of
 same-length-2 c = search rules
 
-returns-2 : tie.Need-returns-2
+returns-2 : tie.Need-returns-in-Of
 returns-2 c =
     let F = c.before.before in
     let K = F.before.before.before in
     let S = K.before.before.before.before.before.before in
-    bytes_as (asked_one (λ n. asked (cell_behind S.args.row n)) S.args.input.now _ _ (asked-at K)) S.args.out.now _ _ F.third-asked.ensures
+    bytes_as (asked_one (λ n. asked (cell_behind S.args.row n)) S.args.input.now _ _ (asked-at K)) S.args.out.now _ _ F.third_asked.ensures
 
-pub field-asked-spec : {M : Type 1} → statement M
-field-asked-spec =
+pub field_asked_spec : {M : Type 1} → statement M
+field_asked_spec =
     tie.close
     (tie.spec
     asked-for-requires

@@ -13,10 +13,10 @@ use borrow.Author.Rules.{rules}
 use Rattle.tollgilt.proofs.input.held_lines.Statement.{statement}
 use Rattle.tollgilt.proofs.input.held_lines.Tie as tie
 
-abbrev invariant-loop : tie.invariant-loop
+abbrev invariant-loop : tie.invariant-loop-i
 invariant-loop list count out₀ a₀ n i₀ out a i = (i ≤ count) × Going out₀ out a₀ a (print (row_lines (take count list))) (print (row_lines (drop i (take count list))))
 
-abbrev decreases-loop : tie.decreases-loop
+abbrev decreases-loop : tie.decreases-loop-i
 decreases-loop list count out₀ a₀ n i₀ out a i = count - i
 
 -- the lines of the rows
@@ -28,60 +28,57 @@ fit : (S : tie.Start invariant-loop decreases-loop) → Fits S.args.out.now 0 (p
 fit S = all_fit S.args.list.now S.args.count S.requires.0 S.args.out.now S.requires.1
 
 -- those of the rows behind the count's
-rows_fit : (c : tie.After-count-line invariant-loop decreases-loop) → Fits c.count-line.new.0 c.count-line.result (rows_of c.before.before.before.before.before)
-rows_fit c = let S = c.before.before.before.before.before in second_fits (rows_of S) (fit S) c.count-line.ensures
+rows_fit : (c : tie.After-count_line-a invariant-loop decreases-loop) → Fits c.count_line-a.new.0 c.count_line-a.result (rows_of c.before.before.before.before.before)
+rows_fit c = let S = c.before.before.before.before.before in second_fits (rows_of S) (fit S) c.count_line-a.ensures
 
 -- where the count was written, and where the call began
-abbrev counting : tie.At-loop invariant-loop decreases-loop → tie.After-count-line invariant-loop decreases-loop
+abbrev counting : tie.At-loop-i invariant-loop decreases-loop → tie.After-count_line-a invariant-loop decreases-loop
 counting L = L.before.before.before
 
-abbrev start : tie.At-loop invariant-loop decreases-loop → tie.Start invariant-loop decreases-loop
+abbrev start : tie.At-loop-i invariant-loop decreases-loop → tie.Start invariant-loop decreases-loop
 start L = (counting L).before.before.before.before.before
 
-slice-aggregate-count-line : tie.Need-slice-aggregate-count-line invariant-loop decreases-loop
-slice-aggregate-count-line c = search rules
-
-count-line-requires : tie.Need-count-line-requires invariant-loop decreases-loop
+count-line-requires : tie.Need-count_line-a-requires invariant-loop decreases-loop
 count-line-requires c κs =
     let S = c.before.before.before.before in
     (first_fits (print (line (bytes "held") (numeral S.args.count) ∷ [])) (rows_of S) (fit S)).inside
 
-loop-holds : tie.Need-loop-init invariant-loop decreases-loop
+loop-holds : tie.Need-loop-i-init invariant-loop decreases-loop
 loop-holds c = (search rules, going_start (rows_fit c.before.before))
 
-mul-row-line : tie.Need-overflow-mul-row-line invariant-loop decreases-loop
+mul-row-line : tie.Need-offset_bounds-list-i invariant-loop decreases-loop
 mul-row-line c = search rules
 
-shared-slice-read-row-line : tie.Need-shared-slice-read-row-line invariant-loop decreases-loop
+shared-slice-read-row-line : tie.Need-bounds-list-i invariant-loop decreases-loop
 shared-slice-read-row-line c = search rules
 
-row-line-requires : tie.Need-row-line-requires invariant-loop decreases-loop
+row-line-requires : tie.Need-row_line-a-requires invariant-loop decreases-loop
 row-line-requires c κs =
     let I = c.before.before in
     let L = I.before in
     let S = start L in
-    going_fits L.loop.invariant.1 (print (line (bytes "row") (numeral (get_or S.args.list.now L.loop.i 0)) ∷ [])) (print (row_lines (drop (L.loop.i + 1) (take S.args.count S.args.list.now))))
-    (next_line S.args.list.now S.args.count S.pre.0 L.loop.i I.loop-test.true)
+    going_fits L.loop-i.invariant.1 (print (line (bytes "row") (numeral (get_or S.args.list.now L.loop-i.i 0)) ∷ [])) (print (row_lines (drop (L.loop-i.i + 1) (take S.args.count S.args.list.now))))
+    (next_line S.args.list.now S.args.count S.pre.0 L.loop-i.i I.loop-i-test.true)
 
-add-i : tie.Need-overflow-add-i invariant-loop decreases-loop
+add-i : tie.Need-overflow_add-i invariant-loop decreases-loop
 add-i c = search rules
 
-loop-less : tie.Need-loop-smaller invariant-loop decreases-loop
+loop-less : tie.Need-loop-i-smaller invariant-loop decreases-loop
 loop-less c = search rules
 
-loop-again : tie.Need-loop-preserved invariant-loop decreases-loop
+loop-again : tie.Need-loop-i-preserved invariant-loop decreases-loop
 loop-again c =
     let R = c.before.before in
     let I = R.before.before.before in
     let L = I.before in
     let S = start L in (
       search rules,
-      going_on L.loop.invariant.1 (print (line (bytes "row") (numeral (get_or S.args.list.now L.loop.i 0)) ∷ [])) (print (row_lines (drop (L.loop.i + 1) (take S.args.count S.args.list.now))))
-          (next_line S.args.list.now S.args.count S.pre.0 L.loop.i I.loop-test.true) R.row_Line.ensures,
+      going_on L.loop-i.invariant.1 (print (line (bytes "row") (numeral (get_or S.args.list.now L.loop-i.i 0)) ∷ [])) (print (row_lines (drop (L.loop-i.i + 1) (take S.args.count S.args.list.now))))
+          (next_line S.args.list.now S.args.count S.pre.0 L.loop-i.i I.loop-i-test.true) R.row_Line.ensures,
     )
 
-same_length : tie.Need-same-length invariant-loop decreases-loop
-same_length c = let L = c.before in L.loop.invariant.1.laying.long ∙ (counting L).count-line.auto.0
+same_length : tie.Need-shape_of-out invariant-loop decreases-loop
+same_length c = let L = c.before in L.loop-i.invariant.1.laying.long ∙ (counting L).count-line.auto.0
 
 returns : tie.Need-returns invariant-loop decreases-loop
 returns c =
@@ -89,15 +86,14 @@ returns c =
     let S = start L in
     let C = counting L in
     written_whole (wrote_as (count_first S.args.list.now S.args.count S.pre.0) (both_written (fit S) C.count-line.ensures
-    (going_done (rows_fit C) L.loop.invariant.1 (no_line S.args.list.now S.args.count S.pre.0 L.loop.i c.loop-test.false))))
+    (going_done (rows_fit C) L.loop-i.invariant.1 (no_line S.args.list.now S.args.count S.pre.0 L.loop-i.i c.loop-i-test.false))))
 
-pub held-lines-spec : {M : Type 1} → statement M
-held-lines-spec =
+pub held_lines_spec : {M : Type 1} → statement M
+held_lines_spec =
     tie.close
     (tie.spec
     invariant-loop
     decreases-loop
-    slice-aggregate-count-line
     count-line-requires
     loop-holds
     mul-row-line

@@ -10,96 +10,96 @@ use Rattle.tollgilt.proofs.JoinLaws.{Joining, first_inside, first_fits, join_fir
 use Rattle.tollgilt.proofs.input.join_pages.Statement.{statement}
 use Rattle.tollgilt.proofs.input.join_pages.Tie as tie
 
-abbrev invariant-loop : tie.invariant-loop
+abbrev invariant-loop : tie.invariant-loop-k
 invariant-loop room out₀ count lens at₀ n₀ k₀ out at n k = Joining room lens count out₀ at₀ n₀ out at n k
 
-abbrev decreases-loop : tie.decreases-loop
+abbrev decreases-loop : tie.decreases-loop-k
 decreases-loop room out₀ count lens at₀ n₀ k₀ out at n k = count - k
 
 -- there are nine lengths, so one for each page
-few : (c : tie.After-struct-known invariant-loop decreases-loop) → let S = c.before.before.before in S.args.fresh.pages ≤ length S.args.fresh.lens
+few : (c : tie.After-struct_known-1 invariant-loop decreases-loop) → let S = c.before.before.before in S.args.fresh.pages ≤ length S.args.fresh.lens
 few c =
     let S = c.before.before.before in
     let nine : length S.args.fresh.lens ≡ 9 = search rules in
     omega (arith, S.requires.1)
 
-cast-count : tie.Need-overflow-cast-count invariant-loop decreases-loop
+cast-count : tie.Need-overflow_cast-count invariant-loop decreases-loop
 cast-count c = search rules
 
-array-read-at : tie.Need-array-read-at invariant-loop decreases-loop
+array-read-at : tie.Need-bounds-lens-0 invariant-loop decreases-loop
 array-read-at c = search rules
 
-cast-at : tie.Need-overflow-cast-at invariant-loop decreases-loop
+cast-at : tie.Need-overflow_cast-at invariant-loop decreases-loop
 cast-at c = search rules
 
-slice-aggregate-lay : tie.Need-slice-aggregate-lay invariant-loop decreases-loop
+slice-aggregate-lay : tie.Need-slice_bounds-lay-end invariant-loop decreases-loop
 slice-aggregate-lay c =
     let K = c.before.before.before in
     let S = K.before.before.before in
     let (s, _, f, g) = S.requires in
     sym (length-take-le _ _ (first_inside S.args.room.now S.args.fresh.lens S.args.fresh.pages S.args.out.now s (few K) f g))
 
-lay-requires : tie.Need-lay-requires invariant-loop decreases-loop
+lay-requires : tie.Need-lay-n-requires invariant-loop decreases-loop
 lay-requires c κs =
     let K = c.before.before.before in
     let S = K.before.before.before in
     let (s, _, f, g) = S.requires in
     first_fits S.args.room.now S.args.fresh.lens S.args.fresh.pages S.args.out.now s (few K) f g
 
-loop-holds : tie.Need-loop-init invariant-loop decreases-loop
+loop-holds : tie.Need-loop-k-init invariant-loop decreases-loop
 loop-holds c =
     let L = c.before.before in
     let K = L.before.before.before.before in
     let S = K.before.before.before in
     let (s, _, f, g) = S.requires in
-    join_first S.args.room.now S.args.fresh.lens S.args.fresh.pages S.args.out.now s (few K) f g _ _ L.lay.ensures
+    join_first S.args.room.now S.args.fresh.lens S.args.fresh.pages S.args.out.now s (few K) f g _ _ L.lay-n.ensures
 
-mul-end : tie.Need-overflow-mul-end invariant-loop decreases-loop
+mul-end : tie.Need-offset_bounds-lens-k invariant-loop decreases-loop
 mul-end c = search rules
 
-array-read-end : tie.Need-array-read-end invariant-loop decreases-loop
-array-read-end c = let L = c.before in omega (arith, L.before.before.before.before.before.before.before.before.before.before.requires.1, c.loop-test.true)
+array-read-end : tie.Need-bounds-lens-k invariant-loop decreases-loop
+array-read-end c = let L = c.before in omega (arith, L.before.before.before.before.before.before.before.before.before.before.requires.1, c.loop-k-test.true)
 
-cast-end : tie.Need-overflow-cast-end invariant-loop decreases-loop
+cast-end : tie.Need-overflow_cast-end invariant-loop decreases-loop
 cast-end c = search rules
 
-add-end : tie.Need-overflow-add-end invariant-loop decreases-loop
-add-end c = omega (arith, next_inside c.before.loop.invariant c.loop-test.true)
+add-end : tie.Need-overflow_add-end invariant-loop decreases-loop
+add-end c = omega (arith, next_inside c.before.loop-k.invariant c.loop-k-test.true)
 
-slice-write-out : tie.Need-slice-write-out invariant-loop decreases-loop
-slice-write-out c = let J = c.before.loop.invariant in omega (arith, zero_fits J c.loop-test.true, J.laying.long)
+slice-write-out : tie.Need-bounds-out-n invariant-loop decreases-loop
+slice-write-out c = let J = c.before.loop-k.invariant in omega (arith, zero_fits J c.loop-k-test.true, J.laying.long)
 
-add-lay : tie.Need-overflow-add-lay invariant-loop decreases-loop
-add-lay c = let I = c.before in omega (arith, zero_fits I.before.loop.invariant I.loop-test.true)
+add-lay : tie.Need-overflow_add-n invariant-loop decreases-loop
+add-lay c = let I = c.before in omega (arith, zero_fits I.before.loop-k.invariant I.loop-k-test.true)
 
-sub-lay : tie.Need-overflow-sub-lay invariant-loop decreases-loop
+sub-lay : tie.Need-slice_bounds-lay-count invariant-loop decreases-loop
 sub-lay c = search rules
 
-part-lay-start : tie.Need-slice-bounds-lay-start invariant-loop decreases-loop
+part-lay-start : tie.Need-slice_bounds-lay-start invariant-loop decreases-loop
 part-lay-start c = search rules
 
-part-lay-end : tie.Need-slice-bounds-lay-end invariant-loop decreases-loop
-part-lay-end c = let I = c.before in omega (arith, next_inside I.before.loop.invariant I.loop-test.true)
+part-lay-end : tie.Need-slice_bounds-lay-end-in-loop-k invariant-loop decreases-loop
+part-lay-end c = let I = c.before in omega (arith, next_inside I.before.loop-k.invariant I.loop-k-test.true)
 
-lay-requires-2 : tie.Need-lay-requires-2 invariant-loop decreases-loop
+lay-requires-2 : tie.Need-lay-n-requires-in-loop-k invariant-loop decreases-loop
 lay-requires-2 c κs =
     let I = c.before.before in
-    let J = I.before.loop.invariant in
-    simp length-set (omega (arith, page_fits J I.loop-test.true, J.laying.long))
+    let J = I.before.loop-k.invariant in
+    simp length-set (omega (arith, page_fits J I.loop-k-test.true, J.laying.long))
 
-add-k : tie.Need-overflow-add-k invariant-loop decreases-loop
+add-k : tie.Need-overflow_add-k invariant-loop decreases-loop
 add-k c = search rules
 
-loop-less : tie.Need-loop-smaller invariant-loop decreases-loop
+loop-less : tie.Need-loop-k-smaller invariant-loop decreases-loop
 loop-less c = search rules
 
-loop-again : tie.Need-loop-preserved invariant-loop decreases-loop
+loop-again : tie.Need-loop-k-preserved invariant-loop decreases-loop
 loop-again c =
     let L = c.before.before in
     let I = L.before.before.before in
-    join_next I.before.loop.invariant I.loop-test.true _ _ L.lay2.ensures
+    join_next I.before.loop-k.invariant I.loop-k-test.true _ _ L.lay-n-in-loop-k.ensures
 
-same_length : tie.Need-same-length invariant-loop decreases-loop
+same_length : tie.Need-shape_of-out invariant-loop decreases-loop
 same_length c = search rules
 
 returns : tie.Need-returns invariant-loop decreases-loop
@@ -109,10 +109,10 @@ returns c =
     let K = L.before.before.before.before in
     let S = K.before.before.before in
     let (s, _, f, g) = S.requires in
-    join_done S.args.room.now S.args.fresh.lens S.args.fresh.pages S.args.out.now s (few K) f g _ _ L.lay.ensures _ _ _ _ A.loop.invariant c.loop-test.false
+    join_done S.args.room.now S.args.fresh.lens S.args.fresh.pages S.args.out.now s (few K) f g _ _ L.lay-n.ensures _ _ _ _ A.loop-k.invariant c.loop-k-test.false
 
-pub join-pages-spec : {M : Type 1} → statement M
-join-pages-spec =
+pub join_pages_spec : {M : Type 1} → statement M
+join_pages_spec =
     tie.close
     (tie.spec
     invariant-loop

@@ -12,49 +12,49 @@ use Rattle.tollgilt.proofs.InputLaws.{split_read}
 use Rattle.tollgilt.proofs.input.split.Statement.{statement}
 use Rattle.tollgilt.proofs.input.split.Tie as tie
 
-module _ (c : tie.After-split-pages) where
-  abbrev counting : tie.After-counted
+module _ (c : tie.After-split_pages-k) where
+  abbrev counting : tie.After-counted-n
   counting = c.before.before.before.before
 
   abbrev input : List ℕ
   input = counting.before.before.args.input.now
 
   -- there is room for ten starts and ten lengths
-  starts-ten : length c.split-pages.new.1.0 ≡ 10
+  starts-ten : length c.split_pages-k.new.1.0 ≡ 10
   starts-ten = search rules
 
-  lens-ten : length c.split-pages.new.1.1.0 ≡ 10
+  lens-ten : length c.split_pages-k.new.1.1.0 ≡ 10
   lens-ten = search rules
 
   -- which is as many as there are pages to hand in, or more
-  starts-many : c.split-pages.result ≤ length c.split-pages.new.1.0
-  starts-many = omega (arith, starts-ten, c.split-pages.ensures.0, length-take 10 (parted (take counting.counted.result input)))
+  starts-many : c.split_pages-k.result ≤ length c.split_pages-k.new.1.0
+  starts-many = omega (arith, starts-ten, c.split_pages-k.ensures.0, length-take 10 (parted (take counting.counted.result input)))
 
-  lens-many : c.split-pages.result ≤ length c.split-pages.new.1.1.0
+  lens-many : c.split_pages-k.result ≤ length c.split_pages-k.new.1.1.0
   lens-many = omega (arith, lens-ten, starts-ten, starts-many)
 
-counted-requires : tie.Need-counted-requires
+counted-requires : tie.Need-counted-n-requires
 counted-requires c κs = search rules
 
-slice-aggregate-split-pages : tie.Need-slice-aggregate-split-pages
+slice-aggregate-split-pages : tie.Need-slice_bounds-split_pages-end
 slice-aggregate-split-pages c = sym (length-take-le _ _ c.before.counted.ensures.0)
 
-slice-aggregate-split-pages-2 : tie.Need-slice-aggregate-split-pages-2
+slice-aggregate-split-pages-2 : tie.Need-slice_bounds-split_pages-end-2
 slice-aggregate-split-pages-2 c = search rules
 
-slice-aggregate-split-pages-3 : tie.Need-slice-aggregate-split-pages-3
+slice-aggregate-split-pages-3 : tie.Need-slice_bounds-split_pages-end-3
 slice-aggregate-split-pages-3 c = search rules
 
-split-pages-requires : tie.Need-split-pages-requires
+split-pages-requires : tie.Need-split_pages-k-requires
 split-pages-requires c κs = search rules
 
 returns : tie.Need-returns
 returns c =
     let P = c.before.before in
-    (starts-many P, lens-many P, split_read (input P) (counting P).counted.result _ _ _ _ P.split-pages.result (counting P).counted.ensures.1 P.split-pages.ensures (omega (arith, starts-ten P)))
+    (starts-many P, lens-many P, split_read (input P) (counting P).counted.result _ _ _ _ P.split_pages-k.result (counting P).counted.ensures.1 P.split_pages-k.ensures (omega (arith, starts-ten P)))
 
-pub split-spec : {M : Type 1} → statement M
-split-spec =
+pub split_spec : {M : Type 1} → statement M
+split_spec =
     tie.close
     (tie.spec
     counted-requires

@@ -7,16 +7,16 @@ use borrow.Author.Rules.{rules}
 use Rattle.writer.proofs.cut.opened.Statement.{statement}
 use Rattle.writer.proofs.cut.opened.Tie as tie
 
-returns : tie.Need-returns
-returns c = let a = c.before.args in rw (eq-eqb (a.m % 2) 1 c.if1.true) (omega arith, omega arith)
+returns : tie.Need-returns-then-m-eq1
+returns c = let a = c.before.args in rw (eq-eqb (a.m % 2) 1 c.if-m-eq1.true) (omega arith, omega arith)
 
-add-result : tie.Need-overflow-add-result
+add-result : tie.Need-overflow_add-result
 add-result c = search rules
 
-returns-2 : tie.Need-returns-2
-returns-2 c = let a = c.before.args in rw (ne_eqb (a.m % 2) 1 c.if1.false) (omega arith, omega arith)
+returns-2 : tie.Need-returns
+returns-2 c = let a = c.before.args in rw (ne_eqb (a.m % 2) 1 c.if-m-eq1.false) (omega arith, omega arith)
 
-pub opened-spec : {M : Type 1} → statement M
-opened-spec =
+pub opened_spec : {M : Type 1} → statement M
+opened_spec =
     tie.close
     (tie.spec returns add-result returns-2)

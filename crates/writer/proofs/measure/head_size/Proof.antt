@@ -29,39 +29,36 @@ unfolding rows_placed
 alone h = page_placed h [] 1 1 false (λ e. absurd (omega (arith, e)))
 
 -- P, A and O stand in their room
-people-within : (P : tie.After-lay-people) → P.lay-people.result ≤ 4096
+people-within : (P : tie.After-lay_people-p) → P.lay_people-p.result ≤ 4096
 people-within P =
     let S = P.before.before.before.before.before.before in
-    omega (arith, P.lay-people.ensures.behind, people_short (show_head S.args.text.now S.args.plan) (sound S))
+    omega (arith, P.lay_people-p.ensures.behind, people_short (show_head S.args.text.now S.args.plan) (sound S))
 
-keys-requires : tie.Need-keys-requires
+keys-requires : tie.Need-keys-keys-requires
 keys-requires c κs = search rules
 
-slice-aggregate-lay-people : tie.Need-slice-aggregate-lay-people
+slice-aggregate-lay-people : tie.Need-slice_bounds-lay_people-end
 slice-aggregate-lay-people c = search rules
 
-slice-aggregate-lay-people-2 : tie.Need-slice-aggregate-lay-people-2
+slice-aggregate-lay-people-2 : tie.Need-slice_bounds-lay_people-end-2
 slice-aggregate-lay-people-2 c = search rules
 
-lay-people-requires : tie.Need-lay-people-requires
+lay-people-requires : tie.Need-lay_people-p-requires
 lay-people-requires c κs =
     let K = c.before.before in
     let S = K.before.before.before in
-    (K.keys.ensures, S.requires.0, omega (arith, people_short (show_head S.args.text.now S.args.plan) (sound S)))
+    (K.keys-keys.ensures, S.requires.0, omega (arith, people_short (show_head S.args.text.now S.args.plan) (sound S)))
 
-slice-aggregate-lay-page : tie.Need-slice-aggregate-lay-page
+slice-aggregate-lay-page : tie.Need-slice_bounds-lay_page-end
 slice-aggregate-lay-page c = search rules
 
-array-share-prefix-people : tie.Need-array-share-prefix-people
+array-share-prefix-people : tie.Need-slice_bounds-people-end
 array-share-prefix-people c = omega (arith, people-within c.before.before.before)
 
-slice-aggregate-lay-page-2 : tie.Need-slice-aggregate-lay-page-2
+slice-aggregate-lay-page-2 : tie.Need-slice_bounds-lay_page-end-2
 slice-aggregate-lay-page-2 c = sym (length-take-le _ _ (omega (arith, people-within c.before.before.before.before)))
 
-slice-aggregate-lay-page-3 : tie.Need-slice-aggregate-lay-page-3
-slice-aggregate-lay-page-3 c = search rules
-
-lay-page-requires : tie.Need-lay-page-requires
+lay-page-requires : tie.Need-lay_page-requires
 lay-page-requires c κs =
     let P = c.before.before.before.before.before in
     let K = P.before.before.before in
@@ -69,17 +66,17 @@ lay-page-requires c κs =
     let h = show_head S.args.text.now S.args.plan in
     (K.keys.ensures, S.requires.0, omega arith, omega arith, written_first P.lay-people.ensures, tt, omega (arith, ap length (alone h), page_short h (sound S), S.requires.1))
 
-same_length : tie.Need-same-length
+same_length : tie.Need-shape_of-scratch
 same_length c = search rules
 
 returns : tie.Need-returns
 returns c =
     let L = c.before.before in
     let S = L.before.before.before.before.before.before.before.before.before.before.before.before in
-    omega (arith, L.lay-page.ensures.behind, ap length (alone (show_head S.args.text.now S.args.plan)))
+    omega (arith, L.lay_page.ensures.behind, ap length (alone (show_head S.args.text.now S.args.plan)))
 
-pub head-size-spec : {M : Type 1} → statement M
-head-size-spec =
+pub head_size_spec : {M : Type 1} → statement M
+head_size_spec =
     tie.close
     (tie.spec
     keys-requires
@@ -89,7 +86,6 @@ head-size-spec =
     slice-aggregate-lay-page
     array-share-prefix-people
     slice-aggregate-lay-page-2
-    slice-aggregate-lay-page-3
     lay-page-requires
     same_length
     returns)

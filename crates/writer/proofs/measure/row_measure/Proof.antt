@@ -26,61 +26,61 @@ row s = show_row s.args.text.now (record_at s.args.rows.now s.args.i)
 fits : (s : tie.Start) → length (placed_text true (row s)) ≤ 8196
 fits s = placed_short (row s) (row_shown s.args.text.now (record_at s.args.rows.now s.args.i) s.requires.2)
 
-abbrev from-placed : tie.After-lay-placed → tie.Start
+abbrev from-placed : tie.After-lay_placed-e → tie.Start
 from-placed c = c.before.before.before.before.before.before
 
 -- its size is what was laid
-size_is : (c : tie.After-lay-placed) → c.lay-placed.result - (from-placed c).args.at ≡ length (placed_text true (row (from-placed c)))
-size_is c = omega (arith, c.lay-placed.ensures.behind)
+size_is : (c : tie.After-lay_placed-e) → c.lay_placed-e.result - (from-placed c).args.at ≡ length (placed_text true (row (from-placed c)))
+size_is c = omega (arith, c.lay_placed-e.ensures.behind)
 
 -- whether it is a heading
 told : (c : tie.After-heads) → c.heads.result ≡ heading (row (from-placed c.before.before.before.before))
 told c =
     let s = from-placed c.before.before.before.before in
-    c.heads.ensures ∙ ap (λ (k : Kind). is (paper_kind k) S) c.before.kind-at.ensures ∙ heading_told s.args.text.now (record_at s.args.rows.now s.args.i)
+    c.heads.ensures ∙ ap (λ (k : Kind). is (paper_kind k) S) c.before.kind_at-kind.ensures ∙ heading_told s.args.text.now (record_at s.args.rows.now s.args.i)
 
-lay-placed-requires : tie.Need-lay-placed-requires
+lay-placed-requires : tie.Need-lay_placed-e-requires
 lay-placed-requires c κs = let s = c.before.before.before.before.before in (s.requires.0, s.requires.1, s.requires.2, omega (arith, fits s, s.requires.3))
 
-sub-size : tie.Need-overflow-sub-size
-sub-size c = omega (arith, c.before.before.lay-placed.ensures.behind)
+sub-size : tie.Need-overflow_sub-size
+sub-size c = omega (arith, c.before.before.lay_placed-e.ensures.behind)
 
-cast-size : tie.Need-overflow-cast-size
+cast-size : tie.Need-overflow_cast-size
 cast-size c = let P = c.before.before in omega (arith, size_is P, fits (from-placed P))
 
-kind-at-requires : tie.Need-kind-at-requires
+kind-at-requires : tie.Need-kind_at-kind-requires
 kind-at-requires c κs = (from-placed c.before.before).requires.1
 
 heads-requires : tie.Need-heads-requires
 heads-requires c κs = search rules
 
-mul-result : tie.Need-overflow-mul-result
+mul-result : tie.Need-overflow_mul-result
 mul-result c = let P = c.before.before.before.before.before in omega (arith, size_is P, fits (from-placed P))
 
-add-result : tie.Need-overflow-add-result
+add-result : tie.Need-overflow_add-result
 add-result c = let P = c.before.before.before.before.before in omega (arith, size_is P, fits (from-placed P))
 
-same_length : tie.Need-same-length
+same_length : tie.Need-shape_of-scratch-then-heads
 same_length c = search rules
 
-returns : tie.Need-returns
+returns : tie.Need-returns-then-heads
 returns c =
     let P = c.before.before.before.before.before in
-    (heading_number (row (from-placed P)) _ (sym (told c.before) ∙ c.if1.true) (size_is P), P.lay-placed.ensures.room)
+    (heading_number (row (from-placed P)) _ (sym (told c.before) ∙ c.if-heads.true) (size_is P), P.lay_placed-e.ensures.room)
 
-mul-result-2 : tie.Need-overflow-mul-result-2
+mul-result-2 : tie.Need-overflow_mul-result-2
 mul-result-2 c = let P = c.before.before.before.before.before in omega (arith, size_is P, fits (from-placed P))
 
-same-length-2 : tie.Need-same-length-2
+same-length-2 : tie.Need-shape_of-scratch
 same-length-2 c = search rules
 
-returns-2 : tie.Need-returns-2
+returns-2 : tie.Need-returns
 returns-2 c =
     let P = c.before.before.before.before.before in
-    (other_number (row (from-placed P)) _ (sym (told c.before) ∙ c.if1.false) (size_is P), P.lay-placed.ensures.room)
+    (other_number (row (from-placed P)) _ (sym (told c.before) ∙ c.if-heads.false) (size_is P), P.lay_placed-e.ensures.room)
 
-pub row-measure-spec : {M : Type 1} → statement M
-row-measure-spec =
+pub row_measure_spec : {M : Type 1} → statement M
+row_measure_spec =
     tie.close
     (tie.spec
     lay-placed-requires

@@ -9,76 +9,76 @@ use Rattle.writer.proofs.MeasureLaws.{Measured, measured_start, measured_next, m
 use Rattle.writer.proofs.measure.row_measures.Statement.{statement}
 use Rattle.writer.proofs.measure.row_measures.Tie as tie
 
-abbrev invariant-loop : tie.invariant-loop
+abbrev invariant-loop : tie.invariant-loop-i
 invariant-loop rows n text scratch₀ keys measures₀ at₀ i₀ scratch measures at i = Measured text rows n scratch₀ scratch measures at i
 
-abbrev decreases-loop : tie.decreases-loop
+abbrev decreases-loop : tie.decreases-loop-i
 decreases-loop rows n text scratch₀ keys measures₀ at₀ i₀ scratch measures at i = n - i
 
-keys-requires : tie.Need-keys-requires invariant-loop decreases-loop
+keys-requires : tie.Need-keys-keys-requires invariant-loop decreases-loop
 keys-requires c κs = search rules
 
-loop-holds : tie.Need-loop-init invariant-loop decreases-loop
+loop-holds : tie.Need-loop-i-init invariant-loop decreases-loop
 loop-holds c = let S = c.before.before.before.before in measured_start S.args.text.now S.args.rows.now S.args.n S.args.scratch.now S.requires.0 S.requires.3
 
-slice-aggregate-row-measure : tie.Need-slice-aggregate-row-measure invariant-loop decreases-loop
+slice-aggregate-row-measure : tie.Need-slice_bounds-row_measure-end invariant-loop decreases-loop
 slice-aggregate-row-measure c = search rules
 
-row-measure-requires : tie.Need-row-measure-requires invariant-loop decreases-loop
+row-measure-requires : tie.Need-row_measure-m-requires invariant-loop decreases-loop
 row-measure-requires c κs =
     let I = c.before.before in
     let L = I.before in
     let K = L.before in
     let S = K.before.before.before.before in
-    let J = L.loop.invariant in
-    let i = I.loop-test.true in
-    (K.keys.ensures, omega (arith, i, S.requires.1), each_sound S.args.text.now S.args.n S.args.rows.now L.loop.i i S.requires.2, omega (arith, J.scratch, J.room, J.low))
+    let J = L.loop-i.invariant in
+    let i = I.loop-i-test.true in
+    (K.keys-keys.ensures, omega (arith, i, S.requires.1), each_sound S.args.text.now S.args.n S.args.rows.now L.loop-i.i i S.requires.2, omega (arith, J.scratch, J.room, J.low))
 
-mul-measures : tie.Need-overflow-mul-measures invariant-loop decreases-loop
+mul-measures : tie.Need-offset_bounds-measures-i invariant-loop decreases-loop
 mul-measures c = search rules
 
-array-write-measures : tie.Need-array-write-measures invariant-loop decreases-loop
+array-write-measures : tie.Need-bounds-measures-i invariant-loop decreases-loop
 array-write-measures c = search rules
 
-size-in-requires : tie.Need-size-in-requires invariant-loop decreases-loop
+size-in-requires : tie.Need-size_in-requires invariant-loop decreases-loop
 size-in-requires c κs = search rules
 
-add-end : tie.Need-overflow-add-end invariant-loop decreases-loop
-add-end c = omega (arith, c.size_in.ensures.1, c.before.before.before.before.before.before.before.loop.invariant.low)
+add-end : tie.Need-overflow_add-end invariant-loop decreases-loop
+add-end c = omega (arith, c.size_in.ensures.1, c.before.before.before.before.before.before.before.loop-i.invariant.low)
 
-add-j : tie.Need-overflow-add-j invariant-loop decreases-loop
+add-j : tie.Need-overflow_add-j invariant-loop decreases-loop
 add-j c = search rules
 
-loop-less : tie.Need-loop-smaller invariant-loop decreases-loop
+loop-less : tie.Need-loop-i-smaller-then-end-le-PAGES invariant-loop decreases-loop
 loop-less c = search rules
 
-loop-again : tie.Need-loop-preserved invariant-loop decreases-loop
+loop-again : tie.Need-loop-i-preserved-then-end-le-PAGES invariant-loop decreases-loop
 loop-again c =
     let Z = c.before in
     let R = Z.before.before.before in
     let I = R.before.before.before in
     let L = I.before in
-    measured_next R.row-measure.new.1.1.1.1.0 _ _ L.loop.invariant I.loop-test.true R.row-measure.ensures.0 R.row-measure.ensures.1 (search rules) c.if1.true (λ l. ap (λ (x : ℕ). L.loop.at + x) Z.size_in.ensures.0)
+    measured_next R.row_measure-m.new.1.1.1.1.0 _ _ L.loop-i.invariant I.loop-i-test.true R.row_measure-m.ensures.0 R.row_measure-m.ensures.1 (search rules) c.if-end-le-PAGES.true (λ l. ap (λ (x : ℕ). L.loop-i.at + x) Z.size_in.ensures.0)
 
-loop-less-2 : tie.Need-loop-smaller-2 invariant-loop decreases-loop
+loop-less-2 : tie.Need-loop-i-smaller invariant-loop decreases-loop
 loop-less-2 c = search rules
 
-loop-again-2 : tie.Need-loop-preserved-2 invariant-loop decreases-loop
+loop-again-2 : tie.Need-loop-i-preserved invariant-loop decreases-loop
 loop-again-2 c =
     let Z = c.before in
     let R = Z.before.before.before in
     let I = R.before.before.before in
     let L = I.before in
-    measured_next R.row-measure.new.1.1.1.1.0 _ _ L.loop.invariant I.loop-test.true R.row-measure.ensures.0 R.row-measure.ensures.1 (search rules) L.loop.invariant.low (λ l. absurd (omega (arith, l, c.if1.false, Z.size_in.ensures.0)))
+    measured_next R.row_measure-m.new.1.1.1.1.0 _ _ L.loop-i.invariant I.loop-i-test.true R.row_measure-m.ensures.0 R.row_measure-m.ensures.1 (search rules) L.loop-i.invariant.low (λ l. absurd (omega (arith, l, c.if-end-le-PAGES.false, Z.size_in.ensures.0)))
 
-same_length : tie.Need-same-length invariant-loop decreases-loop
-same_length c = c.before.loop.invariant.scratch
+same_length : tie.Need-shape_of-scratch invariant-loop decreases-loop
+same_length c = c.before.loop-i.invariant.scratch
 
 returns : tie.Need-returns invariant-loop decreases-loop
-returns c = measured_all c.before.loop.invariant c.loop-test.false
+returns c = measured_all c.before.loop-i.invariant c.loop-i-test.false
 
-pub row-measures-spec : {M : Type 1} → statement M
-row-measures-spec =
+pub row_measures_spec : {M : Type 1} → statement M
+row_measures_spec =
     tie.close
     (tie.spec
     invariant-loop

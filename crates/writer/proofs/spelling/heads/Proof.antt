@@ -8,38 +8,38 @@ use borrow.Author.Rules.{rules}
 use Rattle.writer.proofs.spelling.heads.Statement.{statement}
 use Rattle.writer.proofs.spelling.heads.Tie as tie
 
-enum_told : tie.Need-enum-told
+enum_told : tie.Need-enum_told-1
 enum_told c = search rules
 
-enum-told-2 : tie.Need-enum-told-2
+enum-told-2 : tie.Need-enum_told-in-Medication
 enum-told-2 c = search rules
 
-enum-told-3 : tie.Need-enum-told-3
+enum-told-3 : tie.Need-enum_told-in-Recipe
 enum-told-3 c = search rules
 
-enum-told-4 : tie.Need-enum-told-4
+enum-told-4 : tie.Need-enum_told-in-Note
 enum-told-4 c = search rules
 
-enum-told-5 : tie.Need-enum-told-5
+enum-told-5 : tie.Need-enum_told-in-Unknown
 enum-told-5 c = search rules
 
-returns : tie.Need-returns
-returns c = sym (ap (λ (k : Kind). Paper.is (paper_kind k) Paper.S) c.enum_told.given.1)
+returns : tie.Need-returns-in-Heading
+returns c = sym (ap (λ (k : Kind). Paper.is (paper_kind k) Paper.S) c.enum_told-1.given.1)
 
-returns-2 : tie.Need-returns-2
-returns-2 c = sym (ap (λ (k : Kind). Paper.is (paper_kind k) Paper.S) c.enum-told2.given.1)
+returns-2 : tie.Need-returns-in-Medication
+returns-2 c = sym (ap (λ (k : Kind). Paper.is (paper_kind k) Paper.S) c.enum_told-in-Medication-1.given.1)
 
-returns-3 : tie.Need-returns-3
-returns-3 c = sym (ap (λ (k : Kind). Paper.is (paper_kind k) Paper.S) c.enum-told3.given.1)
+returns-3 : tie.Need-returns-in-Recipe
+returns-3 c = sym (ap (λ (k : Kind). Paper.is (paper_kind k) Paper.S) c.enum_told-in-Recipe-1.given.1)
 
-returns-4 : tie.Need-returns-4
-returns-4 c = sym (ap (λ (k : Kind). Paper.is (paper_kind k) Paper.S) c.enum-told4.given.1)
+returns-4 : tie.Need-returns-in-Note
+returns-4 c = sym (ap (λ (k : Kind). Paper.is (paper_kind k) Paper.S) c.enum_told-in-Note-1.given.1)
 
-returns-5 : tie.Need-returns-5
-returns-5 c = sym (ap (λ (k : Kind). Paper.is (paper_kind k) Paper.S) c.enum-told5.given.1)
+returns-5 : tie.Need-returns-in-Unknown
+returns-5 c = sym (ap (λ (k : Kind). Paper.is (paper_kind k) Paper.S) c.enum_told-in-Unknown-1.given.1)
 
-pub heads-spec : {M : Type 1} → statement M
-heads-spec =
+pub heads_spec : {M : Type 1} → statement M
+heads_spec =
     tie.close
     (tie.spec
     enum_told

@@ -16,55 +16,55 @@ use Rattle.writer.proofs.spelling.lay_front.Statement.{statement}
 use Rattle.writer.proofs.spelling.lay_front.Tie as tie
 
 -- where the call began
-abbrev from-numbers : tie.After-head-numbers → tie.Start
+abbrev from-numbers : tie.After-head_numbers-numbers → tie.Start
 from-numbers H = H.before.before.before.before.before.before
 
-abbrev from_start : tie.After-lay-start → tie.After-head-numbers
+abbrev from_start : tie.After-lay_start-b → tie.After-head_numbers-numbers
 from_start c = c.before.before.before
 
 -- there are 56 numbers, two for each span and two before them
-twice : (H : tie.After-head-numbers) → length H.head-numbers.result ≡ 56
+twice : (H : tie.After-head_numbers-numbers) → length H.head_numbers-numbers.result ≡ 56
 twice H = search rules
 
-long : (H : tie.After-head-numbers) → length (map paper_span (from-numbers H).args.plan.head) ≡ 27
-long H = spans_counted (map paper_span (from-numbers H).args.plan.head) H.head-numbers.result H.head-numbers.ensures (twice H)
+long : (H : tie.After-head_numbers-numbers) → length (map paper_span (from-numbers H).args.plan.head) ≡ 27
+long H = spans_counted (map paper_span (from-numbers H).args.plan.head) H.head_numbers-numbers.result H.head_numbers-numbers.ensures (twice H)
 
 -- the two parts
-abbrev start : tie.After-head-numbers → List ℕ
+abbrev start : tie.After-head_numbers-numbers → List ℕ
 start H = let a = (from-numbers H).args in start_text a.plan.patch a.a a.z a.text.now H.head-numbers.result
 
-abbrev people : tie.After-head-numbers → List ℕ
+abbrev people : tie.After-head_numbers-numbers → List ℕ
 people H = (from-numbers H).args.people.now
 
-head-is : (H : tie.After-head-numbers) → let a = (from-numbers H).args in head_text (show_head a.text.now a.plan) a.a a.z ≡ start H ++ people H
+head-is : (H : tie.After-head_numbers-numbers) → let a = (from-numbers H).args in head_text (show_head a.text.now a.plan) a.a a.z ≡ start H ++ people H
 head-is H =
     let S = from-numbers H in
     let a = S.args in
-    front_by a.text.now a.plan a.a a.z H.head-numbers.result (long H) S.pre.2 S.pre.3 H.head-numbers.ensures ∙ ap (λ (y : List ℕ). start H ++ y) (sym S.pre.4)
+    front_by a.text.now a.plan a.a a.z H.head_numbers-numbers.result (long H) S.pre.2 S.pre.3 H.head_numbers-numbers.ensures ∙ ap (λ (y : List ℕ). start H ++ y) (sym S.pre.4)
 
-fit : (H : tie.After-head-numbers) → let a = (from-numbers H).args in Fits a.out.now a.at (start H ++ people H)
+fit : (H : tie.After-head_numbers-numbers) → let a = (from-numbers H).args in Fits a.out.now a.at (start H ++ people H)
 fit H = fits_as (head-is H) (fits (from-numbers H).requires.5)
 
-start-in : (c : tie.After-lay-start) → let H = from_start c in let a = (from-numbers H).args in Going a.out.now c.lay-start.new.0 a.at c.lay-start.result (start H ++ people H) (people H)
-start-in c = let H = from_start c in going_on (going_start (fit H)) (start H) (people H) refl c.lay-start.ensures
+start-in : (c : tie.After-lay_start-b) → let H = from_start c in let a = (from-numbers H).args in Going a.out.now c.lay_start-b.new.0 a.at c.lay_start-b.result (start H ++ people H) (people H)
+start-in c = let H = from_start c in going_on (going_start (fit H)) (start H) (people H) refl c.lay_start-b.ensures
 
-head-numbers-requires : tie.Need-head-numbers-requires
+head-numbers-requires : tie.Need-head_numbers-numbers-requires
 head-numbers-requires c κs = search rules
 
-slice-aggregate-lay-start : tie.Need-slice-aggregate-lay-start
+slice-aggregate-lay-start : tie.Need-slice_bounds-lay_start-end
 slice-aggregate-lay-start c = search rules
 
-lay-start-requires : tie.Need-lay-start-requires
+lay-start-requires : tie.Need-lay_start-b-requires
 lay-start-requires c κs =
     let H = c.before.before in
     let S = from-numbers H in
     let a = S.args in
-    (S.pre.0, S.pre.2, S.pre.3, search rules, head_inside a.text.now a.plan H.head-numbers.result (long H) H.head-numbers.ensures S.pre.1 0 2 (omega arith), going_fits (going_start (fit H)) (start H) (people H) refl)
+    (S.pre.0, S.pre.2, S.pre.3, search rules, head_inside a.text.now a.plan H.head_numbers-numbers.result (long H) H.head_numbers-numbers.ensures S.pre.1 0 2 (omega arith), going_fits (going_start (fit H)) (start H) (people H) refl)
 
 lay-requires : tie.Need-lay-requires
 lay-requires c κs = last_fits (start-in c.before.before.before)
 
-same_length : tie.Need-same-length
+same_length : tie.Need-shape_of-out
 same_length c = search rules
 
 returns : tie.Need-returns
@@ -74,7 +74,7 @@ returns c =
     let H = from_start T in
     wrote_as (head-is H) (last_on (start-in T) (fit H) (wrote L.lay.ensures))
 
-pub lay-front-spec : {M : Type 1} → statement M
-lay-front-spec =
+pub lay_front_spec : {M : Type 1} → statement M
+lay_front_spec =
     tie.close
     (tie.spec head-numbers-requires slice-aggregate-lay-start lay-start-requires lay-requires same_length returns)

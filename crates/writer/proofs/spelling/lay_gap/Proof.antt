@@ -9,59 +9,51 @@ use Rattle.writer.proofs.spelling.lay_gap.Statement.{statement}
 use Rattle.writer.proofs.spelling.lay_gap.Tie as tie
 
 -- the bytes of each case
-closes : (c : tie.Then2) → let a = c.before.before.before.args in gap_text a.inside a.heading ≡ bytes "</S>"
-closes c = rw (c.before.if1.true, c.if2.true)
+closes : (c : tie.Then-heading) → let a = c.before.before.before.args in gap_text a.inside a.heading ≡ bytes "</S>"
+closes c = rw (c.before.if-inside.true, c.if-heading.true)
 
-stays : (c : tie.Else2) → let a = c.before.before.before.args in gap_text a.inside a.heading ≡ bytes ""
-stays c = rw (c.before.if1.true, c.if2.false)
+stays : (c : tie.Else-heading) → let a = c.before.before.before.args in gap_text a.inside a.heading ≡ bytes ""
+stays c = rw (c.before.if-inside.true, c.if-heading.false)
 
-follows : (c : tie.Then3) → let a = c.before.before.before.args in gap_text a.inside a.heading ≡ bytes ""
-follows c = rw (c.before.if1.false, c.if3.true)
+follows : (c : tie.Then-heading-2) → let a = c.before.before.before.args in gap_text a.inside a.heading ≡ bytes ""
+follows c = rw (c.before.if-inside.false, c.if-heading-2.true)
 
-opens : (c : tie.Else3) → let a = c.before.before.before.args in gap_text a.inside a.heading ≡ bytes "<S>"
-opens c = rw (c.before.if1.false, c.if3.false)
-
-slice-aggregate-lay : tie.Need-slice-aggregate-lay
-slice-aggregate-lay c = search rules
+opens : (c : tie.Else-heading-2) → let a = c.before.before.before.args in gap_text a.inside a.heading ≡ bytes "<S>"
+opens c = rw (c.before.if-inside.false, c.if-heading-2.false)
 
 lay-requires : tie.Need-lay-requires
 lay-requires c κs = rw (closes c.before.before) at c.before.before.before.before.before.requires
 
-same_length : tie.Need-same-length
+same_length : tie.Need-shape_of-out-then-heading
 same_length c = search rules
 
-returns : tie.Need-returns
+returns : tie.Need-returns-then-heading
 returns c = let L = c.before.before in wrote_as (closes L.before.before.before) (wrote L.lay.ensures)
 
-returns-2 : tie.Need-returns-2
+returns-2 : tie.Need-returns-then-inside
 returns-2 c = let a = c.before.before.before.args in wrote_as (stays c) (none_written a.out.now a.at)
 
-returns-3 : tie.Need-returns-3
+returns-3 : tie.Need-returns-then-heading-2
 returns-3 c = let a = c.before.before.before.args in wrote_as (follows c) (none_written a.out.now a.at)
-
-slice-aggregate-lay-2 : tie.Need-slice-aggregate-lay-2
-slice-aggregate-lay-2 c = search rules
 
 lay-requires-2 : tie.Need-lay-requires-2
 lay-requires-2 c κs = rw (opens c.before.before) at c.before.before.before.before.before.requires
 
-same-length-2 : tie.Need-same-length-2
+same-length-2 : tie.Need-shape_of-out
 same-length-2 c = search rules
 
-returns-4 : tie.Need-returns-4
-returns-4 c = let L = c.before.before in wrote_as (opens L.before.before.before) (wrote L.lay2.ensures)
+returns-4 : tie.Need-returns
+returns-4 c = let L = c.before.before in wrote_as (opens L.before.before.before) (wrote L.lay-2.ensures)
 
-pub lay-gap-spec : {M : Type 1} → statement M
-lay-gap-spec =
+pub lay_gap_spec : {M : Type 1} → statement M
+lay_gap_spec =
     tie.close
     (tie.spec
-    slice-aggregate-lay
     lay-requires
     same_length
     returns
     returns-2
     returns-3
-    slice-aggregate-lay-2
     lay-requires-2
     same-length-2
     returns-4)

@@ -23,26 +23,26 @@ use Rattle.writer.proofs.spelling.lay_medication.Statement.{statement}
 use Rattle.writer.proofs.spelling.lay_medication.Tie as tie
 
 -- the row taken apart, as each piece finds it
-abbrev row-lay : tie.After-lay → tie.After-row-at
+abbrev row-lay : tie.After-lay-a → tie.After-row_at-row
 row-lay c = c.before.before.before
 
-abbrev row_number : tie.After-lay-number → tie.After-row-at
+abbrev row_number : tie.After-lay_number-b → tie.After-row_at-row
 row_number c = row-lay c.before.before.before.before
 
-abbrev row-fields : tie.After-lay-fields → tie.After-row-at
+abbrev row-fields : tie.After-lay_fields-c → tie.After-row_at-row
 row-fields c = row_number c.before.before.before.before
 
-abbrev row-dose : tie.After-lay-dose → tie.After-row-at
+abbrev row-dose : tie.After-lay_dose-d → tie.After-row_at-row
 row-dose c = row-fields c.before.before.before.before
 
-abbrev row-fields2 : tie.After-lay-fields2 → tie.After-row-at
+abbrev row-fields2 : tie.After-lay_fields-e → tie.After-row_at-row
 row-fields2 c = row-dose c.before.before.before.before
 
-abbrev row-end : tie.After-lay-end → tie.After-row-at
+abbrev row-end : tie.After-lay_end → tie.After-row_at-row
 row-end c = row-fields2 c.before.before.before.before
 
 -- the call
-abbrev call : tie.After-row-at → tie.Start
+abbrev call : tie.After-row_at-row → tie.Start
 call R = R.before.before.before.before.before
 
 -- the pieces, each with those behind it
@@ -75,87 +75,84 @@ unfolding medication_text
 fit S = fits S.requires.3
 
 -- the room and the place at which these pieces are left
-abbrev Left : tie.After-row-at → List ℕ → ℕ → List ℕ → Type 0
+abbrev Left : tie.After-row_at-row → List ℕ → ℕ → List ℕ → Type 0
 Left R out a left = let S = call R in Going S.args.out.now out S.args.at a (whole S) left
 
 -- the package number and the dose are those of the record
-number-told : (R : tie.After-row-at) → R.row_at.result.«package» ≡ get_or (record_at (call R).args.rows.now (call R).args.i) 1 0
+number-told : (R : tie.After-row_at-row) → R.row_at-row.result.«package» ≡ get_or (record_at (call R).args.rows.now (call R).args.i) 1 0
 unfolding row_in
-number-told R = ap (λ (r : Row). r.«package») R.row_at.ensures
+number-told R = ap (λ (r : Row). r.«package») R.row_at-row.ensures
 
-dose-told : (R : tie.After-row-at) → R.row_at.result.dose ≡ dose_in (record_at (call R).args.rows.now (call R).args.i)
+dose-told : (R : tie.After-row_at-row) → R.row_at-row.result.dose ≡ dose_in (record_at (call R).args.rows.now (call R).args.i)
 unfolding row_in
-dose-told R = ap (λ (r : Row). r.dose) R.row_at.ensures
+dose-told R = ap (λ (r : Row). r.dose) R.row_at-row.ensures
 
 -- a place behind the row's first span
 place : (i n : ℕ) → i * 48 + 2 + n ≡ i * 48 + (2 + n)
 place i n = omega arith
 
 -- what is left behind each piece
-begun : (c : tie.After-lay) → Left (row-lay c) c.lay.new.0 c.lay.result (from-parcel (call (row-lay c)))
-begun c = let S = call (row-lay c) in going_on (going_start (fit S)) (bytes "<M") (from-parcel S) refl (wrote c.lay.ensures)
+begun : (c : tie.After-lay-a) → Left (row-lay c) c.lay-a.new.0 c.lay-a.result (from-parcel (call (row-lay c)))
+begun c = let S = call (row-lay c) in going_on (going_start (fit S)) (bytes "<M") (from-parcel S) refl (wrote c.lay-a.ensures)
 
-package-in : (c : tie.After-lay-number) → let S = call (row_number c) in Left (row_number c) c.lay-number.new.0 c.lay-number.result (front S ++ from-dose S)
+package-in : (c : tie.After-lay_number-b) → let S = call (row_number c) in Left (row_number c) c.lay_number-b.new.0 c.lay_number-b.result (front S ++ from-dose S)
 package-in c =
     let S = call (row_number c) in
-    going_on (begun c.before.before.before.before) (parcel S) (front S ++ from-dose S) refl (wrote_as (ap (λ (n : ℕ). attribute (bytes "p") (decimal n)) (sym (number-told (row_number c)))) c.lay-number.ensures)
+    going_on (begun c.before.before.before.before) (parcel S) (front S ++ from-dose S) refl (wrote_as (ap (λ (n : ℕ). attribute (bytes "p") (decimal n)) (sym (number-told (row_number c)))) c.lay_number-b.ensures)
 
-front-in : (c : tie.After-lay-fields) → Left (row-fields c) c.lay-fields.new.0 c.lay-fields.result (from-dose (call (row-fields c)))
-front-in c = let S = call (row-fields c) in going_on (package-in c.before.before.before.before) (front S) (from-dose S) refl c.lay-fields.ensures
+front-in : (c : tie.After-lay_fields-c) → Left (row-fields c) c.lay_fields-c.new.0 c.lay_fields-c.result (from-dose (call (row-fields c)))
+front-in c = let S = call (row-fields c) in going_on (package-in c.before.before.before.before) (front S) (from-dose S) refl c.lay_fields-c.ensures
 
-dose-in : (c : tie.After-lay-dose) → let S = call (row-dose c) in Left (row-dose c) c.lay-dose.new.0 c.lay-dose.result (behind S ++ end S)
+dose-in : (c : tie.After-lay_dose-d) → let S = call (row-dose c) in Left (row-dose c) c.lay_dose-d.new.0 c.lay_dose-d.result (behind S ++ end S)
 dose-in c =
     let S = call (row-dose c) in
-    going_on (front-in c.before.before.before.before) (dose S) (behind S ++ end S) refl (wrote_as (ap (λ (d : Dose). dose_text (paper_dose S.args.text.now d)) (sym (dose-told (row-dose c)))) c.lay-dose.ensures)
+    going_on (front-in c.before.before.before.before) (dose S) (behind S ++ end S) refl (wrote_as (ap (λ (d : Dose). dose_text (paper_dose S.args.text.now d)) (sym (dose-told (row-dose c)))) c.lay_dose-d.ensures)
 
-behind-in : (c : tie.After-lay-fields2) → Left (row-fields2 c) c.lay-fields2.new.0 c.lay-fields2.result (end (call (row-fields2 c)))
+behind-in : (c : tie.After-lay_fields-e) → Left (row-fields2 c) c.lay_fields-e.new.0 c.lay_fields-e.result (end (call (row-fields2 c)))
 behind-in c =
     let S = call (row-fields2 c) in
     let a = S.args in
-    going_on (dose-in c.before.before.before.before) (behind S) (end S) refl (wrote_as (ap (λ (k : ℕ). fields_text 42 5 a.text.now k a.rows.now) (sym (place a.i 16))) c.lay-fields2.ensures)
+    going_on (dose-in c.before.before.before.before) (behind S) (end S) refl (wrote_as (ap (λ (k : ℕ). fields_text 42 5 a.text.now k a.rows.now) (sym (place a.i 16))) c.lay_fields-e.ensures)
 
 -- all is written
-all_in : (c : tie.After-lay-end) → let S = call (row-end c) in Wrote S.args.out.now c.lay-end.new.0 S.args.at c.lay-end.result (whole S)
+all_in : (c : tie.After-lay_end) → let S = call (row-end c) in Wrote S.args.out.now c.lay_end.new.0 S.args.at c.lay_end.result (whole S)
 all_in c =
     let S = call (row-end c) in
     let a = S.args in
-    last_on (behind-in c.before.before.before.before) (fit S) (wrote_as (ap (λ (k : ℕ). end_text a.text.now k a.rows.now) (sym (place a.i 26))) c.lay-end.ensures)
+    last_on (behind-in c.before.before.before.before) (fit S) (wrote_as (ap (λ (k : ℕ). end_text a.text.now k a.rows.now) (sym (place a.i 26))) c.lay_end.ensures)
 
-row-at-requires : tie.Need-row-at-requires
+row-at-requires : tie.Need-row_at-row-requires
 row-at-requires c κs = search rules
 
-mul-first : tie.Need-overflow-mul-first
+mul-first : tie.Need-overflow_mul-first
 mul-first c = search rules
 
-add-first : tie.Need-overflow-add-first
+add-first : tie.Need-overflow_add-first
 add-first c = search rules
 
-add-behind : tie.Need-overflow-add-behind
+add-behind : tie.Need-overflow_add-behind
 add-behind c = search rules
 
-add-substances : tie.Need-overflow-add-substances
+add-substances : tie.Need-overflow_add-substances
 add-substances c = search rules
 
-slice-aggregate-lay : tie.Need-slice-aggregate-lay
-slice-aggregate-lay c = search rules
-
-lay-requires : tie.Need-lay-requires
+lay-requires : tie.Need-lay-a-requires
 lay-requires c κs = let S = call c.before.before in going_fits (going_start (fit S)) (bytes "<M") (from-parcel S) refl
 
-lay-number-requires : tie.Need-lay-number-requires
+lay-number-requires : tie.Need-lay_number-b-requires
 lay-number-requires c κs =
     let L = c.before.before.before in
     let S = call (row-lay L) in
     rw (number-told (row-lay L)) (going_fits (begun L) (parcel S) (front S ++ from-dose S) refl)
 
-lay-fields-requires : tie.Need-lay-fields-requires
+lay-fields-requires : tie.Need-lay_fields-c-requires
 lay-fields-requires c κs =
     let N = c.before.before.before in
     let S = call (row_number N) in
     let a = S.args in
     (S.pre.0, search rules, omega (arith, S.pre.1), spans_inside a.text.now a.rows.now a.i 3 0 (omega arith) S.pre.2, going_fits (package-in N) (front S) (from-dose S) refl)
 
-lay-dose-requires : tie.Need-lay-dose-requires
+lay-dose-requires : tie.Need-lay_dose-d-requires
 lay-dose-requires c κs =
     let F = c.before.before.before in
     let S = call (row-fields F) in
@@ -165,7 +162,7 @@ lay-dose-requires c κs =
       rw (dose-told (row-fields F)) (going_fits (front-in F) (dose S) (behind S ++ end S) refl),
     )
 
-lay-fields-requires-2 : tie.Need-lay-fields-requires-2
+lay-fields-requires-2 : tie.Need-lay_fields-e-requires
 lay-fields-requires-2 c κs =
     let D = c.before.before.before in
     let S = call (row-dose D) in
@@ -173,22 +170,22 @@ lay-fields-requires-2 c κs =
     rw (place a.i 16)
     (S.pre.0, search rules, omega (arith, S.pre.1), spans_inside a.text.now a.rows.now a.i 5 8 (omega arith) S.pre.2, going_fits (dose-in D) (behind S) (end S) refl)
 
-lay-end-requires : tie.Need-lay-end-requires
+lay-end-requires : tie.Need-lay_end-requires
 lay-end-requires c κs =
     let B = c.before.before.before in
     let S = call (row-fields2 B) in
     let a = S.args in
     rw (place a.i 26) (S.pre.0, omega (arith, S.pre.1), spans_inside a.text.now a.rows.now a.i 6 13 (omega arith) S.pre.2, last_fits (behind-in B))
 
-same_length : tie.Need-same-length
+same_length : tie.Need-shape_of-out
 same_length c = let E = c.before.before in room_kept (fit (call (row-end E))) (all_in E)
 
 returns : tie.Need-returns
 unfolding medication_text
 returns c = all_in c.before.before
 
-pub lay-medication-spec : {M : Type 1} → statement M
-lay-medication-spec =
+pub lay_medication_spec : {M : Type 1} → statement M
+lay_medication_spec =
     tie.close
     (tie.spec
     row-at-requires
@@ -196,7 +193,6 @@ lay-medication-spec =
     add-first
     add-behind
     add-substances
-    slice-aggregate-lay
     lay-requires
     lay-number-requires
     lay-fields-requires

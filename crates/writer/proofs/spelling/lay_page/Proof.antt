@@ -13,7 +13,7 @@ use Rattle.writer.proofs.spelling.lay_page.Statement.{statement}
 use Rattle.writer.proofs.spelling.lay_page.Tie as tie
 
 -- where the call began
-abbrev from_front : tie.After-lay-front → tie.Start
+abbrev from_front : tie.After-lay_front-b → tie.Start
 from_front c = c.before.before.before.before.before.before.before
 
 -- the two parts of the page
@@ -27,20 +27,20 @@ fit : (S : tie.Start) → Fits S.args.out.now S.args.at (top S ++ rest S)
 fit S = fits S.requires.6
 
 -- the rows are left behind the head
-top_in : (c : tie.After-lay-front) → let S = from_front c in Going S.args.out.now c.lay-front.new.0 S.args.at c.lay-front.result (top S ++ rest S) (rest S)
-top_in c = let S = from_front c in going_on (going_start (fit S)) (top S) (rest S) refl c.lay-front.ensures
+top_in : (c : tie.After-lay_front-b) → let S = from_front c in Going S.args.out.now c.lay_front-b.new.0 S.args.at c.lay_front-b.result (top S ++ rest S) (rest S)
+top_in c = let S = from_front c in going_on (going_start (fit S)) (top S) (rest S) refl c.lay_front-b.ensures
 
-lay-front-requires : tie.Need-lay-front-requires
+lay-front-requires : tie.Need-lay_front-b-requires
 lay-front-requires c κs = let S = c.before.before.before.before.before.before in (S.requires.0, S.requires.1, S.requires.2, S.requires.3, S.requires.4, going_fits (going_start (fit S)) (top S) (rest S) refl)
 
-lay-rows-requires : tie.Need-lay-rows-requires
+lay-rows-requires : tie.Need-lay_rows-requires
 lay-rows-requires c κs = let F = c.before.before.before in ((from_front F).requires.5, last_fits (top_in F))
 
-same_length : tie.Need-same-length
+same_length : tie.Need-shape_of-out
 same_length c = search rules
 
 returns : tie.Need-returns
-returns c = let R = c.before.before in let F = R.before.before.before.before in last_on (top_in F) (fit (from_front F)) R.lay-rows.ensures
+returns c = let R = c.before.before in let F = R.before.before.before.before in last_on (top_in F) (fit (from_front F)) R.lay_rows.ensures
 
-pub lay-page-spec : {M : Type 1} → statement M
-lay-page-spec = tie.close (tie.spec lay-front-requires lay-rows-requires same_length returns)
+pub lay_page_spec : {M : Type 1} → statement M
+lay_page_spec = tie.close (tie.spec lay-front-requires lay-rows-requires same_length returns)

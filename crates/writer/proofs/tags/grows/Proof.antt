@@ -7,7 +7,7 @@ use Rattle.paper.proofs.Small.{neither, no_flag}
 use Rattle.writer.proofs.tags.grows.Statement.{statement}
 use Rattle.writer.proofs.tags.grows.Tie as tie
 
-cast-result : tie.Need-overflow-cast-result
+cast-result : tie.Need-overflow_cast-result
 cast-result c = search rules
 
 returns : tie.Need-returns
@@ -17,5 +17,5 @@ returns c = λ e.
     let (v, w) = neither (eqb b 34) (eqb b 38) two in
     rw (w, x, v)
 
-pub grows-spec : {M : Type 1} → statement M
-grows-spec = tie.close (tie.spec cast-result returns)
+pub grows_spec : {M : Type 1} → statement M
+grows_spec = tie.close (tie.spec cast-result returns)

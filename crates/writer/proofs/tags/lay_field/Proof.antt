@@ -17,37 +17,37 @@ use Rattle.writer.proofs.tags.lay_field.Statement.{statement}
 use Rattle.writer.proofs.tags.lay_field.Tie as tie
 
 -- a present value lies within the text
-inside-at : (c : tie.Else1) → let S = c.before.before.before.before in S.args.s.at + S.args.s.len ≤ length S.args.text.now
-inside-at c = let S = c.before.before.before.before in span_inside (length S.args.text.now) S.args.s.at S.args.s.len c.if1.false S.requires.0
+inside-at : (c : tie.Else-s-eq0) → let S = c.before.before.before.before in S.args.s.at + S.args.s.len ≤ length S.args.text.now
+inside-at c = let S = c.before.before.before.before in span_inside (length S.args.text.now) S.args.s.at S.args.s.len c.if-s-eq0.false S.requires.0
 
 -- and has its attribute
-as-quoted : (c : tie.Else1) → let S = c.before.before.before.before in attribute (name_of S.args.letters) (shown S.args.text.now (paper_span S.args.s))
+as-quoted : (c : tie.Else-s-eq0) → let S = c.before.before.before.before in attribute (name_of S.args.letters) (shown S.args.text.now (paper_span S.args.s))
     ≡ quoted (name_of S.args.letters) (escape (slice S.args.s.at (S.args.s.at + S.args.s.len) S.args.text.now))
-as-quoted c = let S = c.before.before.before.before in span_quoted (name_of S.args.letters) S.args.text.now (paper_span S.args.s) c.if1.false S.requires.0
+as-quoted c = let S = c.before.before.before.before in span_quoted (name_of S.args.letters) S.args.text.now (paper_span S.args.s) c.if-s-eq0.false S.requires.0
 
-returns : tie.Need-returns
-returns c = let S = c.before.before.before.before in rw c.if1.true (none_written S.args.out.now S.args.at)
+returns : tie.Need-returns-then-s-eq0
+returns c = let S = c.before.before.before.before in rw c.if-s-eq0.true (none_written S.args.out.now S.args.at)
 
-cast-from : tie.Need-overflow-cast-from
+cast-from : tie.Need-overflow_cast-from
 cast-from c = search rules
 
-cast-to : tie.Need-overflow-cast-to
+cast-to : tie.Need-overflow_cast-to
 cast-to c = search rules
 
-add-to : tie.Need-overflow-add-to
+add-to : tie.Need-overflow_add-to
 add-to c = search rules
 
-lay-attribute-requires : tie.Need-lay-attribute-requires
+lay-attribute-requires : tie.Need-lay_attribute-requires
 lay-attribute-requires c κs = let E = c.before.before.before in (search rules, inside-at E, rw (as-quoted E) at E.before.before.before.before.requires.1)
 
-same_length : tie.Need-same-length
+same_length : tie.Need-shape_of-out
 same_length c = search rules
 
-returns-2 : tie.Need-returns-2
-returns-2 c = let N = c.before.before in rw (as-quoted N.before.before.before.before) N.lay-attribute.ensures
+returns-2 : tie.Need-returns
+returns-2 c = let N = c.before.before in rw (as-quoted N.before.before.before.before) N.lay_attribute.ensures
 
-pub lay-field-spec : {M : Type 1} → statement M
-lay-field-spec =
+pub lay_field_spec : {M : Type 1} → statement M
+lay_field_spec =
     tie.close
     (tie.spec
     returns

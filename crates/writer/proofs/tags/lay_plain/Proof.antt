@@ -68,46 +68,46 @@ done w from to at o₀ o grown p i H h =
     let e : i ≡ to = omega (arith, H.within) in
     (λ y. H.own y (none w to i e), (all_laid (omega (arith, H.room)) (told H.laying (rw (e, slice_empty to w)))).1)
 
-abbrev invariant-loop : tie.invariant-loop
+abbrev invariant-loop : tie.invariant-loop-i
 invariant-loop out₀ at text from to grown₀ p₀ i₀ out grown p i = Held text from to at out₀ out grown p i
 
-abbrev decreases-loop : tie.decreases-loop
+abbrev decreases-loop : tie.decreases-loop-i
 decreases-loop out₀ at text from to grown₀ p₀ i₀ out grown p i = to - i
 
-loop-holds : tie.Need-loop-init invariant-loop decreases-loop
+loop-holds : tie.Need-loop-i-init invariant-loop decreases-loop
 loop-holds c = search rules
 
-shared-slice-read-b : tie.Need-shared-slice-read-b invariant-loop decreases-loop
+shared-slice-read-b : tie.Need-bounds-text-i invariant-loop decreases-loop
 shared-slice-read-b c = search rules
 
-slice-write-out : tie.Need-slice-write-out invariant-loop decreases-loop
+slice-write-out : tie.Need-bounds-out-p invariant-loop decreases-loop
 slice-write-out c = search rules
 
-grows-requires : tie.Need-grows-requires invariant-loop decreases-loop
+grows-requires : tie.Need-grows-grown-requires invariant-loop decreases-loop
 grows-requires c κs = search rules
 
-add-p : tie.Need-overflow-add-p invariant-loop decreases-loop
+add-p : tie.Need-overflow_add-p invariant-loop decreases-loop
 add-p c = search rules
 
-add-i : tie.Need-overflow-add-i invariant-loop decreases-loop
+add-i : tie.Need-overflow_add-i invariant-loop decreases-loop
 add-i c = search rules
 
-loop-less : tie.Need-loop-smaller invariant-loop decreases-loop
+loop-less : tie.Need-loop-i-smaller invariant-loop decreases-loop
 loop-less c = search rules
 
-loop-again : tie.Need-loop-preserved invariant-loop decreases-loop
+loop-again : tie.Need-loop-i-preserved invariant-loop decreases-loop
 loop-again c =
     let I = c.before.before in
-    next _ _ _ _ _ _ _ _ _ I.before.loop.invariant I.loop-test.true c.grows.result _ (both_zero I.before.loop.grown c.grows.result) c.grows.ensures
+    next _ _ _ _ _ _ _ _ _ I.before.loop-i.invariant I.loop-i-test.true c.grows-grown.result _ (both_zero I.before.loop-i.grown c.grows-grown.result) c.grows-grown.ensures
 
-same_length : tie.Need-same-length invariant-loop decreases-loop
+same_length : tie.Need-shape_of-out invariant-loop decreases-loop
 same_length c = search rules
 
 returns : tie.Need-returns invariant-loop decreases-loop
-returns c = let D = done _ _ _ _ _ _ _ _ _ c.before.loop.invariant c.loop-test.false in (λ e. D.0 (eqb-true _ _ e), D.1)
+returns c = let D = done _ _ _ _ _ _ _ _ _ c.before.loop-i.invariant c.loop-i-test.false in (λ e. D.0 (eqb-true _ _ e), D.1)
 
-pub lay-plain-spec : {M : Type 1} → statement M
-lay-plain-spec =
+pub lay_plain_spec : {M : Type 1} → statement M
+lay_plain_spec =
     tie.close
     (tie.spec
     invariant-loop

@@ -14,46 +14,46 @@ fit : (S : tie.Start) → let a = S.args in Fits a.out.now a.at (tag_text a.begi
 fit S = record { inside = S.requires.4 }
 
 -- the attributes and the end are left
-begun : (c : tie.After-lay) → let a = c.before.before.before.before.before.before.before.before.args in
-    Going a.out.now c.lay.new.0 a.at c.lay.result (tag_text a.begin.now a.first a.count a.text.now a.from a.numbers.now a.end.now) (fields_text a.first a.count a.text.now a.from a.numbers.now ++ a.end.now)
+begun : (c : tie.After-lay-a) → let a = c.before.before.before.before.before.before.before.before.args in
+    Going a.out.now c.lay-a.new.0 a.at c.lay-a.result (tag_text a.begin.now a.first a.count a.text.now a.from a.numbers.now a.end.now) (fields_text a.first a.count a.text.now a.from a.numbers.now ++ a.end.now)
 unfolding tag_text
 begun c =
     let S = c.before.before.before.before.before.before.before.before in
     let a = S.args in
-    going_on (going_start (fit S)) a.begin.now (fields_text a.first a.count a.text.now a.from a.numbers.now ++ a.end.now) refl (wrote c.lay.ensures)
+    going_on (going_start (fit S)) a.begin.now (fields_text a.first a.count a.text.now a.from a.numbers.now ++ a.end.now) refl (wrote c.lay-a.ensures)
 
 -- the end is left
-filled : (c : tie.After-lay-fields) → let a = c.before.before.before.before.before.before.before.before.before.before.before.before.args in
-    Going a.out.now c.lay-fields.new.0 a.at c.lay-fields.result (tag_text a.begin.now a.first a.count a.text.now a.from a.numbers.now a.end.now) a.end.now
+filled : (c : tie.After-lay_fields-b) → let a = c.before.before.before.before.before.before.before.before.before.before.before.before.args in
+    Going a.out.now c.lay_fields-b.new.0 a.at c.lay_fields-b.result (tag_text a.begin.now a.first a.count a.text.now a.from a.numbers.now a.end.now) a.end.now
 filled c =
     let a = c.before.before.before.before.before.before.before.before.before.before.before.before.args in
-    going_on (begun c.before.before.before.before) (fields_text a.first a.count a.text.now a.from a.numbers.now) a.end.now refl c.lay-fields.ensures
+    going_on (begun c.before.before.before.before) (fields_text a.first a.count a.text.now a.from a.numbers.now) a.end.now refl c.lay_fields-b.ensures
 
-lay-requires : tie.Need-lay-requires
+lay-requires : tie.Need-lay-a-requires
 unfolding tag_text
 lay-requires c κs =
     let S = c.before.before.before.before.before.before.before in
     let a = S.args in
     going_fits (going_start (fit S)) a.begin.now (fields_text a.first a.count a.text.now a.from a.numbers.now ++ a.end.now) refl
 
-lay-fields-requires : tie.Need-lay-fields-requires
+lay-fields-requires : tie.Need-lay_fields-b-requires
 lay-fields-requires c κs =
     let L = c.before.before.before in
     let S = L.before.before.before.before.before.before.before.before in
     let a = S.args in
     (S.requires.0, S.requires.1, S.requires.2, S.requires.3, going_fits (begun L) (fields_text a.first a.count a.text.now a.from a.numbers.now) a.end.now refl)
 
-lay-requires-2 : tie.Need-lay-requires-2
+lay-requires-2 : tie.Need-lay-requires
 lay-requires-2 c κs = last_fits (filled c.before.before.before)
 
-same_length : tie.Need-same-length
+same_length : tie.Need-shape_of-out
 same_length c = search rules
 
 returns : tie.Need-returns
-returns c = let E = c.before.before in last_on (filled E.before.before.before.before) (fit E.before.before.before.before.before.before.before.before.before.before.before.before.before.before.before.before) (wrote E.lay2.ensures)
+returns c = let E = c.before.before in last_on (filled E.before.before.before.before) (fit E.before.before.before.before.before.before.before.before.before.before.before.before.before.before.before.before) (wrote E.lay.ensures)
 
-pub lay-tag-spec : {M : Type 1} → statement M
-lay-tag-spec =
+pub lay_tag_spec : {M : Type 1} → statement M
+lay_tag_spec =
     tie.close
     (tie.spec
     lay-requires

@@ -38,39 +38,39 @@ copied o o' v a r e q w = rw e (record { behind = q; room = w })
 over : (o o₁ o₂ v : List ℕ) (a r : ℕ) → a + length (escape v) ≤ length o → o₁ ≡ laid o a v → r ≡ a + length (escape v) → o₂ ≡ laid o₁ a (escape v) → Wrote o o₂ a r (escape v)
 over o o₁ o₂ v a r h w q u = record { behind = q; room = u ∙ ap (λ (x : List ℕ). laid x a (escape v)) w ∙ laid_over o v (escape v) a h (escape_long v) }
 
-lay-plain-requires : tie.Need-lay-plain-requires
+lay-plain-requires : tie.Need-lay_plain-requires
 lay-plain-requires c κs = let S = c.before.before.before in (S.requires.0, S.requires.1, copy-fits S)
 
-sub-result : tie.Need-overflow-sub-result
+sub-result : tie.Need-overflow_sub-result
 sub-result c = search rules
 
-add-result : tie.Need-overflow-add-result
+add-result : tie.Need-overflow_add-result
 add-result c = search rules
 
-same_length : tie.Need-same-length
+same_length : tie.Need-shape_of-out-then-lay_plain
 same_length c = search rules
 
-returns : tie.Need-returns
+returns : tie.Need-returns-then-lay_plain
 returns c =
     let P = c.before.before.before in
     let S = P.before.before.before.before in
-    copied _ _ (value S) S.args.at _ (P.lay-plain.ensures.0 c.if1.true) (ap (λ (x : ℕ). S.args.at + x) (sym (value-long S))) P.lay-plain.ensures.1
+    copied _ _ (value S) S.args.at _ (P.lay_plain.ensures.0 c.if-lay_plain.true) (ap (λ (x : ℕ). S.args.at + x) (sym (value-long S))) P.lay_plain.ensures.1
 
 spell-requires : tie.Need-spell-requires
 spell-requires c κs = search rules
 
-same-length-2 : tie.Need-same-length-2
+same-length-2 : tie.Need-shape_of-out
 same-length-2 c = search rules
 
-returns-2 : tie.Need-returns-2
+returns-2 : tie.Need-returns
 returns-2 c =
     let E = c.before.before in
     let P = E.before.before.before.before.before in
     let S = P.before.before.before.before in
-    over _ _ _ (value S) S.args.at _ S.requires.2 P.lay-plain.ensures.1 E.spell.ensures.0 E.spell.ensures.1
+    over _ _ _ (value S) S.args.at _ S.requires.2 P.lay_plain.ensures.1 E.spell.ensures.0 E.spell.ensures.1
 
-pub lay-value-spec : {M : Type 1} → statement M
-lay-value-spec =
+pub lay_value_spec : {M : Type 1} → statement M
+lay_value_spec =
     tie.close
     (tie.spec
     lay-plain-requires

@@ -34,49 +34,49 @@ first-told t rows from to b h l =
     at zero i = absurd (omega arith)
     at (suc k) i = refl
 
-abbrev invariant-loop : tie.invariant-loop
+abbrev invariant-loop : tie.invariant-loop-k
 invariant-loop out₀ plan rows n z text spelt measures ends keys people p lens₀ at₀ from₀ begin₀ k₀ out lens at from begin k = Laid (show_head text plan) text rows ends n z out₀ out lens at from begin k
 
-abbrev decreases-loop : tie.decreases-loop
+abbrev decreases-loop : tie.decreases-loop-k
 decreases-loop out₀ plan rows n z text spelt measures ends keys people p lens₀ at₀ from₀ begin₀ k₀ out lens at from begin k = z - k
 
 -- where the call began
-abbrev from-people : tie.After-lay-people invariant-loop decreases-loop → tie.Start invariant-loop decreases-loop
+abbrev from-people : tie.After-lay_people-p invariant-loop decreases-loop → tie.Start invariant-loop decreases-loop
 from-people c = c.before.before.before.before.before.before.before.before
 
-abbrev from-loop : tie.At-loop invariant-loop decreases-loop → tie.After-lay-people invariant-loop decreases-loop
+abbrev from-loop : tie.At-loop-k invariant-loop decreases-loop → tie.After-lay_people-p invariant-loop decreases-loop
 from-loop L = L.before.before
 
-abbrev from-sizes : tie.After-sizes-between invariant-loop decreases-loop → tie.In-loop invariant-loop decreases-loop
+abbrev from-sizes : tie.After-sizes_between invariant-loop decreases-loop → tie.In-loop-k invariant-loop decreases-loop
 from-sizes c = c.before.before
 
 -- P, A and O fit, and stand in their room
 short : (S : tie.Start invariant-loop decreases-loop) → sound_head (show_head S.args.text.now S.args.plan) ≡ true
 short S = head_shown S.args.text.now S.args.plan S.requires.0
 
-people-within : (P : tie.After-lay-people invariant-loop decreases-loop) → P.lay-people.result ≤ 4096
+people-within : (P : tie.After-lay_people-p invariant-loop decreases-loop) → P.lay_people-p.result ≤ 4096
 people-within P =
     let S = from-people P in
-    omega (arith, P.lay-people.ensures.behind, people_short (show_head S.args.text.now S.args.plan) (short S))
+    omega (arith, P.lay_people-p.ensures.behind, people_short (show_head S.args.text.now S.args.plan) (short S))
 
 -- the rows of the next page
-abbrev these : tie.In-loop invariant-loop decreases-loop → List Row
+abbrev these : tie.In-loop-k invariant-loop decreases-loop → List Row
 these I = let L = I.before in let a = (from-people (from-loop L)).args in rows_between a.text.now a.rows.now L.loop.from (get_or a.t6 L.loop.k 0)
 
-between : (I : tie.In-loop invariant-loop decreases-loop) → let L = I.before in let a = (from-people (from-loop L)).args in (L.loop.from ≤ get_or a.t6 L.loop.k 0) × (get_or a.t6 L.loop.k 0 ≤ a.n)
-between I = next_rows _ _ _ _ _ _ I.before.loop.invariant I.loop-test.true
+between : (I : tie.In-loop-k invariant-loop decreases-loop) → let L = I.before in let a = (from-people (from-loop L)).args in (L.loop-k.from ≤ get_or a.t6 L.loop-k.k 0) × (get_or a.t6 L.loop-k.k 0 ≤ a.n)
+between I = next_rows _ _ _ _ _ _ I.before.loop-k.invariant I.loop-k-test.true
 
 -- what they take among the rows as they are spelled
-size_is : (c : tie.After-sizes-between invariant-loop decreases-loop) → c.sizes-between.result ≡ length (rows_placed (these (from-sizes c)))
+size_is : (c : tie.After-sizes_between invariant-loop decreases-loop) → c.sizes_between.result ≡ length (rows_placed (these (from-sizes c)))
 size_is c =
     let I = from-sizes c in
     let L = I.before in
     let S = from-people (from-loop L) in
     let a = S.args in
     let r = between I in
-    c.sizes-between.ensures ∙ stretch_sizes a.text.now a.rows.now a.n L.loop.from (get_or a.t6 L.loop.k 0) r.0 r.1 a.t5 S.pre.7
+    c.sizes_between.ensures ∙ stretch_sizes a.text.now a.rows.now a.n L.loop.from (get_or a.t6 L.loop.k 0) r.0 r.1 a.t5 S.pre.7
 
-within-at : (c : tie.After-sizes-between invariant-loop decreases-loop) → let L = (from-sizes c).before in L.loop.begin + c.sizes-between.result ≤ length (from-people (from-loop L)).args.spelt.now
+within-at : (c : tie.After-sizes_between invariant-loop decreases-loop) → let L = (from-sizes c).before in L.loop.begin + c.sizes_between.result ≤ length (from-people (from-loop L)).args.spelt.now
 within-at c =
     let I = from-sizes c in
     let L = I.before in
@@ -85,7 +85,7 @@ within-at c =
     let r = between I in
     omega (arith, size_is c, L.loop.inv.begins, stretch_within a.text.now a.rows.now a.n L.loop.from (get_or a.t6 L.loop.k 0) r.0 r.1, all_there a.spelt.now _ S.pre.8)
 
-part-is : (c : tie.After-sizes-between invariant-loop decreases-loop) (e : ℕ) → e ≡ (from-sizes c).before.loop.begin + c.sizes-between.result
+part-is : (c : tie.After-sizes_between invariant-loop decreases-loop) (e : ℕ) → e ≡ (from-sizes c).before.loop.begin + c.sizes_between.result
     → take (e - (from-sizes c).before.loop.begin) (drop (from-sizes c).before.loop.begin (from-people (from-loop (from-sizes c).before)).args.spelt.now) ≡ rows_placed (these (from-sizes c))
 part-is c e q =
     let I = from-sizes c in
@@ -98,99 +98,99 @@ part-is c e q =
     ∙ ap (λ (n : ℕ). take (length (rows_placed (these I))) (drop n a.spelt.now)) L.loop.inv.begins
     ∙ stretch_bytes a.text.now a.rows.now a.n L.loop.from (get_or a.t6 L.loop.k 0) r.0 r.1 a.spelt.now S.pre.8
 
-told : (c : tie.After-begins-section invariant-loop decreases-loop) → let I = from-sizes c.before in 1 ≤ length (these I) → c.begins-section.result ≡ headed (these I)
+told : (c : tie.After-begins_section-heading invariant-loop decreases-loop) → let I = from-sizes c.before in 1 ≤ length (these I) → c.begins_section-heading.result ≡ headed (these I)
 told c =
     let I = from-sizes c.before in
     let L = I.before in
     let a = (from-people (from-loop L)).args in
-    first-told a.text.now a.rows.now L.loop.from (get_or a.t6 L.loop.k 0) c.begins-section.result c.begins-section.ensures
+    first-told a.text.now a.rows.now L.loop.from (get_or a.t6 L.loop.k 0) c.begins_section-heading.result c.begins_section-heading.ensures
 
 -- the page as it is laid
-laid_as : (c : tie.After-begins-section invariant-loop decreases-loop) (w : List ℕ) → w ≡ rows_placed (these (from-sizes c.before)) → let L = (from-sizes c.before).before in let a = (from-people (from-loop L)).args in let h = show_head a.text.now a.plan in
-    page h (these (from-sizes c.before)) (L.loop.k + 1) a.z ≡ head_text h (L.loop.k + 1) a.z ++ rows_page c.begins-section.result w
+laid_as : (c : tie.After-begins_section-heading invariant-loop decreases-loop) (w : List ℕ) → w ≡ rows_placed (these (from-sizes c.before)) → let L = (from-sizes c.before).before in let a = (from-people (from-loop L)).args in let h = show_head a.text.now a.plan in
+    page h (these (from-sizes c.before)) (L.loop.k + 1) a.z ≡ head_text h (L.loop.k + 1) a.z ++ rows_page c.begins_section-heading.result w
 laid_as c w e =
     let I = from-sizes c.before in
     let L = I.before in
     let a = (from-people (from-loop L)).args in
     let h = show_head a.text.now a.plan in
-    page_placed h (these I) (L.loop.k + 1) a.z c.begins-section.result (told c)
-    ∙ ap (λ (x : List ℕ). head_text h (L.loop.k + 1) a.z ++ rows_page c.begins-section.result x) (sym e)
+    page_placed h (these I) (L.loop.k + 1) a.z c.begins_section-heading.result (told c)
+    ∙ ap (λ (x : List ℕ). head_text h (L.loop.k + 1) a.z ++ rows_page c.begins_section-heading.result x) (sym e)
 
-keys-requires : tie.Need-keys-requires invariant-loop decreases-loop
+keys-requires : tie.Need-keys-keys-requires invariant-loop decreases-loop
 keys-requires c κs = search rules
 
-slice-aggregate-lay-people : tie.Need-slice-aggregate-lay-people invariant-loop decreases-loop
+slice-aggregate-lay-people : tie.Need-slice_bounds-lay_people-end invariant-loop decreases-loop
 slice-aggregate-lay-people c = search rules
 
-slice-aggregate-lay-people-2 : tie.Need-slice-aggregate-lay-people-2 invariant-loop decreases-loop
+slice-aggregate-lay-people-2 : tie.Need-slice_bounds-lay_people-end-2 invariant-loop decreases-loop
 slice-aggregate-lay-people-2 c = search rules
 
-lay-people-requires : tie.Need-lay-people-requires invariant-loop decreases-loop
+lay-people-requires : tie.Need-lay_people-p-requires invariant-loop decreases-loop
 lay-people-requires c κs =
     let K = c.before.before in
     let S = K.before.before.before.before.before in
-    (K.keys.ensures, S.requires.0, omega (arith, people_short (show_head S.args.text.now S.args.plan) (short S)))
+    (K.keys-keys.ensures, S.requires.0, omega (arith, people_short (show_head S.args.text.now S.args.plan) (short S)))
 
-loop-holds : tie.Need-loop-init invariant-loop decreases-loop
+loop-holds : tie.Need-loop-k-init invariant-loop decreases-loop
 loop-holds c =
     let S = from-people c.before in
     let a = S.args in
     let l : length a.t6 ≡ 9 = search rules in
     laid_start (show_head a.text.now a.plan) a.text.now a.rows.now a.t6 a.n a.z a.out.now S.pre.3 l S.pre.4 S.pre.5 S.pre.6
 
-mul-to : tie.Need-overflow-mul-to invariant-loop decreases-loop
+mul-to : tie.Need-offset_bounds-ends-k invariant-loop decreases-loop
 mul-to c = search rules
 
-array-read-to : tie.Need-array-read-to invariant-loop decreases-loop
+array-read-to : tie.Need-bounds-ends-k invariant-loop decreases-loop
 array-read-to c = search rules
 
-slice-aggregate-sizes-between : tie.Need-slice-aggregate-sizes-between invariant-loop decreases-loop
+slice-aggregate-sizes-between : tie.Need-slice_bounds-sizes_between-end invariant-loop decreases-loop
 slice-aggregate-sizes-between c = search rules
 
-sizes-between-requires : tie.Need-sizes-between-requires invariant-loop decreases-loop
+sizes-between-requires : tie.Need-sizes_between-requires invariant-loop decreases-loop
 sizes-between-requires c κs =
     let I = c.before in
     let S = from-people (from-loop I.before) in
     let r = between I in
     (r.0, omega (arith, r.1, S.pre.2), omega (arith, r.1, S.pre.2))
 
-add-end : tie.Need-overflow-add-end invariant-loop decreases-loop
+add-end : tie.Need-overflow_add-end invariant-loop decreases-loop
 add-end c = let w = within-at c in search rules
 
-begins-section-requires : tie.Need-begins-section-requires invariant-loop decreases-loop
+begins-section-requires : tie.Need-begins_section-heading-requires invariant-loop decreases-loop
 begins-section-requires c κs =
     let I = from-sizes c in
     let r = between I in
     (r.0, omega (arith, r.1, (from-people (from-loop I.before)).pre.1))
 
-slice-aggregate-lay-page : tie.Need-slice-aggregate-lay-page invariant-loop decreases-loop
+slice-aggregate-lay-page : tie.Need-slice_bounds-lay_page-end invariant-loop decreases-loop
 slice-aggregate-lay-page c = search rules
 
-cast-lay-page : tie.Need-overflow-cast-lay-page invariant-loop decreases-loop
+cast-lay-page : tie.Need-overflow_cast-k invariant-loop decreases-loop
 cast-lay-page c = search rules
 
-add-lay-page : tie.Need-overflow-add-lay-page invariant-loop decreases-loop
+add-lay-page : tie.Need-overflow_add-k invariant-loop decreases-loop
 add-lay-page c = search rules
 
-cast-lay-page-2 : tie.Need-overflow-cast-lay-page-2 invariant-loop decreases-loop
+cast-lay-page-2 : tie.Need-overflow_cast-z invariant-loop decreases-loop
 cast-lay-page-2 c = search rules
 
-array-share-prefix-people : tie.Need-array-share-prefix-people invariant-loop decreases-loop
+array-share-prefix-people : tie.Need-slice_bounds-people-end invariant-loop decreases-loop
 array-share-prefix-people c = omega (arith, people-within c.before.before.before.before.before.before.before.before)
 
-slice-aggregate-lay-page-2 : tie.Need-slice-aggregate-lay-page-2 invariant-loop decreases-loop
+slice-aggregate-lay-page-2 : tie.Need-slice_bounds-lay_page-end-in-loop-k invariant-loop decreases-loop
 slice-aggregate-lay-page-2 c = sym (length-take-le _ _ (omega (arith, people-within c.before.before.before.before.before.before.before.before.before)))
 
-sub-lay-page : tie.Need-overflow-sub-lay-page invariant-loop decreases-loop
+sub-lay-page : tie.Need-slice_bounds-lay_page-count invariant-loop decreases-loop
 sub-lay-page c = search rules
 
-part-lay-page-start : tie.Need-slice-bounds-lay-page-start invariant-loop decreases-loop
+part-lay-page-start : tie.Need-slice_bounds-lay_page-start invariant-loop decreases-loop
 part-lay-page-start c = search rules
 
-part-lay-page-end : tie.Need-slice-bounds-lay-page-end invariant-loop decreases-loop
+part-lay-page-end : tie.Need-slice_bounds-lay_page-end-in-loop-k-2 invariant-loop decreases-loop
 part-lay-page-end c = within-at c.before.before.before.before
 
-lay-page-requires : tie.Need-lay-page-requires invariant-loop decreases-loop
+lay-page-requires : tie.Need-lay_page-e-requires invariant-loop decreases-loop
 lay-page-requires c κs =
     let T = c.before.before.before.before in
     let Z = T.before in
@@ -207,50 +207,50 @@ lay-page-requires c κs =
       e,
       S.pre.3,
       written_first P.lay-people.ensures,
-      subst (Opened T.begins-section.result) (sym w) (page_opened (these I) T.begins-section.result (told T)),
+      subst (Opened T.begins_section-heading.result) (sym w) (page_opened (these I) T.begins_section-heading.result (told T)),
       omega (arith, ap length (laid_as T _ w), next_fits _ _ _ _ _ _ L.loop.inv i),
     )
 
-sub-lens : tie.Need-overflow-sub-lens invariant-loop decreases-loop
+sub-lens : tie.Need-overflow_sub-lens invariant-loop decreases-loop
 sub-lens c = search rules
 
-cast-lens : tie.Need-overflow-cast-lens invariant-loop decreases-loop
+cast-lens : tie.Need-overflow_cast-lens invariant-loop decreases-loop
 cast-lens c =
     let E = c.before.before in
     let T = E.before.before.before.before.before in
     let I = from-sizes T.before in
-    omega (arith, E.lay-page.ensures.behind, ap length (laid_as T _ (part-is T.before _ refl)), next_short _ _ _ _ _ _ I.before.loop.inv I.loop-test.taken)
+    omega (arith, E.lay_page-e.ensures.behind, ap length (laid_as T _ (part-is T.before _ refl)), next_short _ _ _ _ _ _ I.before.loop-k.inv I.loop-test.taken)
 
-mul-lens : tie.Need-overflow-mul-lens invariant-loop decreases-loop
+mul-lens : tie.Need-offset_bounds-lens-k invariant-loop decreases-loop
 mul-lens c = search rules
 
-array-write-lens : tie.Need-array-write-lens invariant-loop decreases-loop
+array-write-lens : tie.Need-bounds-lens-k invariant-loop decreases-loop
 array-write-lens c = search rules
 
-add-k : tie.Need-overflow-add-k invariant-loop decreases-loop
+add-k : tie.Need-overflow_add-k-in-loop-k invariant-loop decreases-loop
 add-k c = search rules
 
-loop-less : tie.Need-loop-smaller invariant-loop decreases-loop
+loop-less : tie.Need-loop-k-smaller invariant-loop decreases-loop
 loop-less c = search rules
 
-loop-again : tie.Need-loop-preserved invariant-loop decreases-loop
+loop-again : tie.Need-loop-k-preserved invariant-loop decreases-loop
 loop-again c =
     let E = c.before.before in
     let T = E.before.before.before.before.before in
     let I = from-sizes T.before in
     let L = I.before in
-    laid_next _ _ _ _ _ _ L.loop.inv I.loop-test.taken _ _ (wrote_as (laid_as T _ (part-is T.before _ refl)) E.lay-page.ensures) refl (ap (λ (x : ℕ). L.loop.begin + x) (size_is T.before))
+    laid_next _ _ _ _ _ _ L.loop.inv I.loop-test.taken _ _ (wrote_as (laid_as T _ (part-is T.before _ refl)) E.lay_page-e.ensures) refl (ap (λ (x : ℕ). L.loop.begin + x) (size_is T.before))
 
-same_length : tie.Need-same-length invariant-loop decreases-loop
-same_length c = c.before.loop.invariant.going.laying.long
+same_length : tie.Need-shape_of-out invariant-loop decreases-loop
+same_length c = c.before.loop-k.invariant.going.laying.long
 
 returns : tie.Need-returns invariant-loop decreases-loop
 returns c =
     let L = c.before in
-    laid_all _ _ _ _ _ _ L.loop.invariant c.loop-test.false (from-people (from-loop L)).pre.6
+    laid_all _ _ _ _ _ _ L.loop-k.invariant c.loop-k-test.false (from-people (from-loop L)).pre.6
 
-pub lay-pages-spec : {M : Type 1} → statement M
-lay-pages-spec =
+pub lay_pages_spec : {M : Type 1} → statement M
+lay_pages_spec =
     tie.close
     (tie.spec
     invariant-loop

@@ -38,42 +38,42 @@ all ms from to size i H h =
     let z : sizes_in (slice i to ms) ≡ 0 = rw (e, slice_empty to ms) in
     omega (arith, H.right, z)
 
-abbrev invariant-loop : tie.invariant-loop
+abbrev invariant-loop : tie.invariant-loop-i
 invariant-loop measures from to size₀ i₀ size i = Held measures from to size i
 
-abbrev decreases-loop : tie.decreases-loop
+abbrev decreases-loop : tie.decreases-loop-i
 decreases-loop measures from to size₀ i₀ size i = to - i
 
-loop-holds : tie.Need-loop-init invariant-loop decreases-loop
+loop-holds : tie.Need-loop-i-init invariant-loop decreases-loop
 loop-holds c = let S = c.before in record { begun = omega arith; within = S.requires.0; long = S.requires.2; few = S.requires.1; low = omega arith; right = omega arith }
 
-mul-size-in : tie.Need-overflow-mul-size-in invariant-loop decreases-loop
+mul-size-in : tie.Need-offset_bounds-measures-i invariant-loop decreases-loop
 mul-size-in c = search rules
 
-size-in-requires : tie.Need-size-in-requires invariant-loop decreases-loop
+size-in-requires : tie.Need-size_in-size-requires invariant-loop decreases-loop
 size-in-requires c κs = search rules
 
-add-size : tie.Need-overflow-add-size invariant-loop decreases-loop
+add-size : tie.Need-overflow_add-size invariant-loop decreases-loop
 add-size c = search rules
 
-add-i : tie.Need-overflow-add-i invariant-loop decreases-loop
+add-i : tie.Need-overflow_add-i invariant-loop decreases-loop
 add-i c = search rules
 
-loop-less : tie.Need-loop-smaller invariant-loop decreases-loop
+loop-less : tie.Need-loop-i-smaller invariant-loop decreases-loop
 loop-less c = search rules
 
-loop-again : tie.Need-loop-preserved invariant-loop decreases-loop
-loop-again c = let I = c.before.before in next _ _ _ _ _ c.size_in.result I.before.loop.invariant I.loop-test.true c.size_in.ensures.0 c.size_in.ensures.1
+loop-again : tie.Need-loop-i-preserved invariant-loop decreases-loop
+loop-again c = let I = c.before.before in next _ _ _ _ _ c.size_in-size.result I.before.loop-i.invariant I.loop-i-test.true c.size_in-size.ensures.0 c.size_in-size.ensures.1
 
 returns : tie.Need-returns invariant-loop decreases-loop
-returns c = all _ _ _ _ _ c.before.loop.invariant c.loop-test.false
+returns c = all _ _ _ _ _ c.before.loop-i.invariant c.loop-i-test.false
 
 -- src/writing.rt:73:25
-shared-slice-read-size-in : tie.Need-shared-slice-read-size-in invariant-loop decreases-loop
+shared-slice-read-size-in : tie.Need-bounds-measures-i invariant-loop decreases-loop
 shared-slice-read-size-in c = search rules
 
-pub sizes-between-spec : {M : Type 1} → statement M
-sizes-between-spec =
+pub sizes_between_spec : {M : Type 1} → statement M
+sizes_between_spec =
     tie.close
     (tie.spec
     invariant-loop
