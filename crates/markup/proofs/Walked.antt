@@ -57,6 +57,7 @@ letter_name : (c : ℕ) → is_letter c ≡ true → is_name_byte c ≡ true
 letter_name c e = or_left (is_letter c) (is_digit c) e
 
 name_all : (n : List ℕ) → Name n → All (Pass is_name_byte) n
+name_all [] x' = elim x' [ ]
 name_all (c ∷ n) (e, h) = (letter_name c e, h)
 
 all_to : (p r : ℕ → Bool) → ((c : ℕ) → p c ≡ true → r c ≡ true) → (s : List ℕ) → All (Pass p) s → All (Pass r) s
@@ -84,6 +85,7 @@ unfolding is_ref
 hex_ref c e = or_left (is_digit c || is_hex c) (is_name_byte c || (eqb c 35 || eqb c 59)) (or_right (is_digit c) (is_hex c) e)
 
 some_all : (p : ℕ → Bool) (s : List ℕ) → Some p s → All (Pass p) s
+some_all p [] h = elim h [ ]
 some_all p (c ∷ s) h = h
 
 ref_bytes : {s : List ℕ} → Ref s → All (Pass is_ref) s
@@ -227,6 +229,7 @@ attrs_in : {b : Bool} {a : List ℕ} {l : List Attr} → Attrs b a l → (d : �
 unfolding inside form
 attrs_in end d y hs hn = unroll (d ∷ y) hs ∙ rw (hn, until)
 attrs_in (space e q) d y hs hn = rw e (attrs_in q d y hs hn)
+attrs_in (attr [] u v q r {w = w} {l = l} x4 us vs k p o) d y hs hn = elim x4 [ ]
 attrs_in (attr (c ∷ n) u v q r {w = w} (e, h) us vs k p o) d y hs hn =
     let assoc : ((c ∷ n) ++ (u ++ 61 ∷ (v ++ q ∷ (r ++ q ∷ w)))) ++ d ∷ y ≡ (c ∷ n) ++ ((u ++ 61 ∷ v) ++ q ∷ (r ++ q ∷ (w ++ d ∷ y))) = simp append_assoc in
     let assoc2 : u ++ 61 ∷ (v ++ q ∷ (r ++ q ∷ (w ++ d ∷ y))) ≡ (u ++ 61 ∷ v) ++ q ∷ (r ++ q ∷ (w ++ d ∷ y)) = simp append_assoc in
@@ -275,6 +278,7 @@ module _ {a : List ℕ} {l : List Attr} (n : List ℕ) (hn : Name n) (A : Attrs 
   tag_is i ts = go n hn
     where
       go : (m : List ℕ) → Name m → tag_before i (m ++ (a ++ d ∷ x)) ts ≡ opened i m (record { attrs = l; shut = eqb d 47 }) ts
+      go [] x'' = elim x'' [ ]
       go (c ∷ m) (e, h) =
           let s : name_end ((c ∷ m) ++ (a ++ d ∷ x)) ≡ suc (length m) = tag_seam (c ∷ m) d x (letter_name c e, h) A hd in
           let t : take (suc (length m)) ((c ∷ m) ++ (a ++ d ∷ x)) ≡ c ∷ m = take_at (c ∷ m) (a ++ d ∷ x) (suc (length m)) refl in

@@ -108,15 +108,15 @@ returns-2 c = part_at c.before.before.before.before Catalogue c.before.enum_told
 
 returns-3 : tie.Need-returns-in-Neither
 returns-3 c =
-    let K = c.before.before.before.before in
+    let K = c.before.before.before in
     let a = K.before.before.before.before.before.before.args in
-    empty_is a.rows.now a.count a.text a.catalogue a.row a.field a.which (shown-at K) (values-are K) c.before.enum-told3.given.1
+    empty_is a.rows.now a.count a.text a.catalogue a.row a.field a.which (shown-at K) (values-are K) c.enum_told-in-Neither-1.given.1
 
 returns-4 : tie.Need-returns-in-NoCell
 returns-4 c =
-    let A = c.before.before.before in
+    let A = c.before.before in
     let a = A.before.before.before.before.args in
-    refused_is a.rows.now a.count a.text a.catalogue a.row a.field a.which (refused-at A c.before.enum-told4.given.1)
+    refused_is a.rows.now a.count a.text a.catalogue a.row a.field a.which (refused-at A c.enum_told-in-NoCell-1.given.1)
 
 pub cell_text_spec : {M : Type 1} → statement M
 cell_text_spec =

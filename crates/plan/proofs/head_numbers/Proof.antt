@@ -60,14 +60,14 @@ loop-less c = search rules
 loop-again : tie.Need-loop-j-preserved invariant-loop decreases-loop
 loop-again c =
     let L = c.before.before in
-    let head = L.before.args.t1 in
+    let head = L.before.args.head in
     let long : length head ≡ 27 = search rules in
     (search rules, search rules, head_turn (map paper_span head) L.loop-j.j (omega (arith, length-map head paper_span, c.before.loop-j-test.true)) c.before.loop-j-test.true (ap code_span (sym (get_or-map paper_span head L.loop-j.j no_span))) L.loop-j.invariant.2)
 
 returns : tie.Need-returns invariant-loop decreases-loop
 returns c =
     let L = c.before in
-    let head = L.before.args.t1 in
+    let head = L.before.args.head in
     let long : length head ≡ 27 = search rules in
     L.loop-j.invariant.2 ∙ head_done (map paper_span head) L.loop-j.j (length-map head paper_span ∙ long) c.loop-j-test.false
 

@@ -20,7 +20,7 @@ element-copy-out-result : tie.Need-bounds-odd-b
 element-copy-out-result c = search rules
 
 returns : tie.Need-returns
-returns c = tells c.before.args.odd.now c.before.args.b c.before.requires (search rules)
+returns c = tells c.before.before.args.odd.now c.before.before.args.b c.before.before.requires (search rules)
 
 pub is_odd_spec : {M : Type 1} → statement M
 is_odd_spec = tie.close (tie.spec element-copy-out-result returns)

@@ -44,7 +44,7 @@ returns c =
     let D = c.before.before.before.before.before in
     let F = D.before.before.before.before in
     let day = three real_day D.before.before.before.shown.ensures D.before.before.shown-then-fits.ensures D.before.shown-then-fits-2.ensures in
-    rw (sym F.before.fits2.ensures ∙ F.if-fits.true, sym day ∙ sym D.real_day.ensures ∙ c.before.before.before.before.if-real_day.true)
+    rw (sym F.before.fits.ensures ∙ F.if-fits.true, sym day ∙ sym D.real_day.ensures ∙ c.before.before.before.before.if-real_day.true)
     (c.is_time.ensures ∙ three (λ h m s. leb h 23 && leb m 59 && leb s 59) c.before.before.before.shown-then-real_day.ensures c.before.before.shown-then-real_day-2.ensures c.before.shown-then-real_day-3.ensures)
 
 returns-2 : tie.Need-returns-then-fits
@@ -53,11 +53,11 @@ returns-2 c =
     let D = c.before in
     let F = D.before.before.before.before in
     let day = three real_day D.before.before.before.shown.ensures D.before.before.shown-then-fits.ensures D.before.shown-then-fits-2.ensures in
-    rw (sym F.before.fits2.ensures ∙ F.if-fits.true, sym day ∙ sym D.real_day.ensures ∙ c.if-real_day.false)
+    rw (sym F.before.fits.ensures ∙ F.if-fits.true, sym day ∙ sym D.real_day.ensures ∙ c.if-real_day.false)
 
 returns-3 : tie.Need-returns
 unfolding in_set
-returns-3 c = rw (sym c.before.fits2.ensures ∙ c.if-fits.false)
+returns-3 c = rw (sym c.before.fits.ensures ∙ c.if-fits.false)
 
 pub is_stamp_spec : {M : Type 1} → statement M
 is_stamp_spec =

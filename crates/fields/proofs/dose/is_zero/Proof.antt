@@ -18,8 +18,8 @@ fits-requires c κs = search rules
 returns : tie.Need-returns-then-rule-eq14
 unfolding in_set
 returns c =
-    let v = c.before.before.before.before.args.v.now in
-    c.fits2.ensures ∙ plain_same (48 ∷ []) v ∙ sym (ap (λ (k : ℕ). is_zero (rule_at k) v) c.before.before.if1.true)
+    let v = c.before.before.before.before.before.args.v.now in
+    c.fits.ensures ∙ plain_same (48 ∷ []) v ∙ sym (ap (λ (k : ℕ). is_zero (rule_at k) v) c.before.before.before.if-rule-eq14.true)
 
 returns-2 : tie.Need-returns
 returns-2 c = let a = c.before.before.args in sym (not_dose a.rule a.v.now c.if-rule-eq14.false)

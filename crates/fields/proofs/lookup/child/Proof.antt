@@ -20,44 +20,44 @@ array-read-first c = search rules
 
 cast-first : tie.Need-overflow_cast-first-2
 unfolding child_first_column child_count_column child_key_column child_kind_column under kind_at
-cast-first c = fits_entry child_first_column c.before.args.parent refl
+cast-first c = fits_entry child_first_column c.before.before.before.args.parent refl
 
 array-read-count : tie.Need-bounds-parent-2
 array-read-count c = search rules
 
 cast-count : tie.Need-overflow_cast-count-2
 unfolding child_first_column child_count_column child_key_column child_kind_column under kind_at
-cast-count c = fits_entry child_count_column c.before.args.parent refl
+cast-count c = fits_entry child_count_column c.before.before.before.before.before.args.parent refl
 
 slice-aggregate-find : tie.Need-slice_bounds-find-end
 slice-aggregate-find c = search rules
 
 add-find : tie.Need-overflow_add-first
 unfolding child_first_column child_count_column under kind_at
-add-find c = let S = c.before.before in let within = child_within S.args.parent S.requires in omega arith
+add-find c = let S = c.before.before.before.before.before.before in let within = child_within S.args.parent S.requires in omega arith
 
 key-requires : tie.Need-key-requires
 key-requires c κs = search rules
 
 find-requires : tie.Need-find-i-requires
 unfolding child_first_column child_count_column under kind_at
-find-requires c κs = let S = c.before.before.before in let within = child_within S.args.parent S.requires in (omega arith, omega arith)
+find-requires c κs = let S = c.before.before.before.before.before.before.before in let within = child_within S.args.parent S.requires in (omega arith, omega arith)
 
 add-result : tie.Need-overflow_add-result
 unfolding child_first_column child_count_column under kind_at
-add-result c = let S = c.before.before.before.before.before in let within = child_within S.args.parent S.requires in omega arith
+add-result c = let S = c.before.before.before.before.before.before.before.before.before in let within = child_within S.args.parent S.requires in omega arith
 
 array-read-result : tie.Need-bounds-kinds-first
 unfolding child_first_column child_count_column under kind_at
-array-read-result c = let S = c.before.before.before.before.before in let within = child_within S.args.parent S.requires in omega arith
+array-read-result c = let S = c.before.before.before.before.before.before.before.before.before in let within = child_within S.args.parent S.requires in omega arith
 
 returns : tie.Need-returns-then-i-count
 unfolding child_first_column child_count_column child_key_column child_kind_column under kind_at
 returns c =
     let K = c.before.before in
-    let S = K.before.before.before in
+    let S = K.before.before.before.before.before.before.before in
     let a = S.args in
-    let e = child_found a.parent c.before.find-i.result K.key.result a.name.now S.requires (λ i. (K.before.before.shared-slice-known.given i).fits)
+    let e = child_found a.parent c.before.find-i.result K.key.result a.name.now S.requires (λ i. (K.before.before.before.before.before.before.shared_slice_known-1.given i).fits)
     K.key.ensures c.before.find-i.ensures.0 c.if-i-count.true in
     (e, rw e (code_small (named a.name.now (under a.parent))))
 
@@ -65,9 +65,9 @@ returns-2 : tie.Need-returns
 unfolding child_first_column child_count_column child_key_column child_kind_column under kind_at
 returns-2 c =
     let K = c.before.before in
-    let S = K.before.before.before in
+    let S = K.before.before.before.before.before.before.before in
     let a = S.args in (
-      child_none a.parent c.before.find-i.result K.key.result a.name.now S.requires (λ i. (K.before.before.shared-slice-known.given i).fits)
+      child_none a.parent c.before.find-i.result K.key.result a.name.now S.requires (λ i. (K.before.before.before.before.before.before.shared_slice_known-1.given i).fits)
           K.key.ensures c.before.find-i.ensures.0 c.if-i-count.false,
       omega arith,
     )

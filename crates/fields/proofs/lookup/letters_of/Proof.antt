@@ -16,7 +16,7 @@ array-read-result c = search rules
 
 returns : tie.Need-returns
 unfolding key_column fields_of
-returns c = letters_at c.args.id c.requires
+returns c = letters_at c.before.before.args.id c.before.before.requires
 
 pub letters_of_spec : {M : Type 1} → statement M
 letters_of_spec = tie.close (tie.spec mul-result array-read-result returns)

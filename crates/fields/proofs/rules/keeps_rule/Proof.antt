@@ -64,63 +64,63 @@ all-in-requires-7 c κs = search rules
 
 returns : tie.Need-returns-in-1
 unfolding in_set
-returns c = let a = c.before.before.before.before.args in c.fits2.ensures ∙ plain_same (48 ∷ 50 ∷ 55 ∷ []) a.v.now ∙ by_number a.rule 1 a.v.now c.before.before.match.keys1
+returns c = let a = c.before.before.before.before.before.args in c.fits.ensures ∙ plain_same (48 ∷ 50 ∷ 55 ∷ []) a.v.now ∙ by_number a.rule 1 a.v.now c.before.before.before.in-1.is
 
 returns-2 : tie.Need-returns-in-2
 unfolding in_set
-returns-2 c = let a = c.before.before.before.args in c.all_in.ensures ∙ by_number a.rule 2 a.v.now c.before.in-2.keys2
+returns-2 c = let a = c.before.before.before.args in c.all_in.ensures ∙ by_number a.rule 2 a.v.now c.before.in-2.is
 
 returns-3 : tie.Need-returns-in-3
 unfolding in_set
-returns-3 c = let a = c.before.before.before.args in c.all_in-in-3.ensures ∙ by_number a.rule 3 a.v.now c.before.in-3.keys3
+returns-3 c = let a = c.before.before.before.args in c.all_in-in-3.ensures ∙ by_number a.rule 3 a.v.now c.before.in-3.is
 
 returns-4 : tie.Need-returns-in-4
 unfolding in_set
-returns-4 c = let a = c.before.before.before.before.args in c.fits3.ensures ∙ by_number a.rule 4 a.v.now c.before.before.match.keys4
+returns-4 c = let a = c.before.before.before.before.before.args in c.fits-in-4.ensures ∙ by_number a.rule 4 a.v.now c.before.before.before.in-4.is
 
 returns-5 : tie.Need-returns-in-5
 unfolding in_set
-returns-5 c = let a = c.before.before.before.args in c.all_in-in-5.ensures ∙ by_number a.rule 5 a.v.now c.before.in-5.keys5
+returns-5 c = let a = c.before.before.before.args in c.all_in-in-5.ensures ∙ by_number a.rule 5 a.v.now c.before.in-5.is
 
 returns-6 : tie.Need-returns-in-6
 unfolding in_set
-returns-6 c = let a = c.before.before.before.args in c.is_birthday.ensures ∙ by_number a.rule 6 a.v.now c.before.in-6.keys6
+returns-6 c = let a = c.before.before.before.args in c.is_birthday.ensures ∙ by_number a.rule 6 a.v.now c.before.in-6.is
 
 returns-7 : tie.Need-returns-in-7
 unfolding in_set
-returns-7 c = let a = c.before.before.before.args in c.all_in-in-7.ensures ∙ by_number a.rule 7 a.v.now c.before.in-7.keys7
+returns-7 c = let a = c.before.before.before.args in c.all_in-in-7.ensures ∙ by_number a.rule 7 a.v.now c.before.in-7.is
 
 returns-8 : tie.Need-returns-in-8
 unfolding in_set
-returns-8 c = let a = c.before.before.before.before.args in c.fits4.ensures ∙ by_number a.rule 8 a.v.now c.before.before.match.keys8
+returns-8 c = let a = c.before.before.before.before.before.args in c.fits-in-8.ensures ∙ by_number a.rule 8 a.v.now c.before.before.before.in-8.is
 
 returns-9 : tie.Need-returns-in-9
 unfolding in_set
-returns-9 c = let a = c.before.before.before.args in c.is_stamp.ensures ∙ by_number a.rule 9 a.v.now c.before.in-9.keys9
+returns-9 c = let a = c.before.before.before.args in c.is_stamp.ensures ∙ by_number a.rule 9 a.v.now c.before.in-9.is
 
 returns-10 : tie.Need-returns-in-10
 unfolding in_set
-returns-10 c = let a = c.before.before.before.args in c.all_in-in-10.ensures ∙ by_number a.rule 10 a.v.now c.before.in-10.keys10
+returns-10 c = let a = c.before.before.before.args in c.all_in-in-10.ensures ∙ by_number a.rule 10 a.v.now c.before.in-10.is
 
 returns-11 : tie.Need-returns-in-11
 unfolding in_set
-returns-11 c = let a = c.before.before.before.args in c.has_lines.ensures ∙ by_number a.rule 11 a.v.now c.before.in-11.keys11
+returns-11 c = let a = c.before.before.before.args in c.has_lines.ensures ∙ by_number a.rule 11 a.v.now c.before.in-11.is
 
 returns-12 : tie.Need-returns-in-12
 unfolding in_set
-returns-12 c = let a = c.before.before.before.args in c.is_package.ensures ∙ by_number a.rule 12 a.v.now c.before.in-12.keys12
+returns-12 c = let a = c.before.before.before.args in c.is_package.ensures ∙ by_number a.rule 12 a.v.now c.before.in-12.is
 
 returns-13 : tie.Need-returns-in-13
 unfolding in_set
-returns-13 c = let a = c.before.before.before.args in c.all_in-in-13.ensures ∙ by_number a.rule 13 a.v.now c.before.in-13.keys13
+returns-13 c = let a = c.before.before.before.args in c.all_in-in-13.ensures ∙ by_number a.rule 13 a.v.now c.before.in-13.is
 
 returns-14 : tie.Need-returns-in-14
 unfolding in_set
-returns-14 c = let a = c.before.before.before.args in c.is_dose.ensures ∙ by_number a.rule 14 a.v.now c.before.in-14.keys14
+returns-14 c = let a = c.before.before.before.args in c.is_dose.ensures ∙ by_number a.rule 14 a.v.now c.before.in-14.is
 
 returns-15 : tie.Need-returns-in-15
 unfolding in_set
-returns-15 c = let a = c.before.before.before.args in c.all_in-in-15.ensures ∙ by_number a.rule 15 a.v.now c.before.in-15.keys15
+returns-15 c = let a = c.before.before.before.args in c.all_in-in-15.ensures ∙ by_number a.rule 15 a.v.now c.before.in-15.is
 
 returns-16 : tie.Need-returns-in_default
 returns-16 c = let a = c.before.before.args in sym (ap (λ (r : Rule). obeys r a.v.now) (text_rule a.rule (λ p q. let l = none_of a.rule 15 c.in_default.rest p in omega arith)))

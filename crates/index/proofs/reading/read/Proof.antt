@@ -38,9 +38,9 @@ read-requires c κs = search rules
 
 with-index-requires : tie.Need-with_index-requires
 with-index-requires c κs =
-    let R = c.before.before.before.before.before.before in
+    let R = c.before.before.before.before.before in
     let a = (start R).args in
-    call_asked a.rows.now a.text.now a.index.now _ _ _ R.read.result _ _ (roomy R) R.read.ensures
+    call_asked a.rows.now a.text.now a.index.now _ _ _ R.read-reading.result _ _ (roomy R) R.read-reading.ensures
 
 same_length : tie.Need-shape_of-rows
 same_length c = search rules
@@ -54,9 +54,9 @@ same-length-3 c = search rules
 returns-2 : tie.Need-returns
 returns-2 c =
     let I = c.before.before in
-    let R = I.before.before.before.before.before.before.before in
+    let R = I.before.before.before.before.before.before in
     let a = (start R).args in
-    indexed (answered a.rows.now a.text.now a.buffer.now a.starts.now a.lens.now) a.rows.now a.text.now a.index.now R.read.result _ _ I.with_index.result _ (roomy R) R.read.ensures
+    indexed (answered a.rows.now a.text.now a.buffer.now a.starts.now a.lens.now) a.rows.now a.text.now a.index.now R.read-reading.result _ _ I.with_index.result _ (roomy R) R.read-reading.ensures
     I.with_index.ensures.0 I.with_index.ensures.1 I.with_index.ensures.2
 
 pub read_spec : {M : Type 1} → statement M

@@ -43,12 +43,12 @@ person-fits : (c : tie.After-mp_lines-a) → let H = c.before.before.before in l
 person-fits c = let H = c.before.before.before in let S = H.before.before.before in other_lines (mp_lines S.args.patch S.args.text.now H.head_numbers-numbers.result) ((lines_of (bytes "MP.P.") 6 8 S.args.text.now 6 H.head_numbers-numbers.result) ++ ((lines_of (bytes "MP.A.") 14 10 S.args.text.now 22 H.head_numbers-numbers.result) ++ (lines_of (bytes "MP.O.") 24 7 S.args.text.now 42 H.head_numbers-numbers.result))) (fit H) c.mp_lines-a.ensures
 
 -- those of A and O behind those of P
-author-fits : (c : tie.After-fields-b) → let H = c.before.before.before.before.before.before.before.before.before in let S = H.before.before.before in Fits c.fields-b.new.0 c.fields-b.result (print ((lines_of (bytes "MP.A.") 14 10 S.args.text.now 22 H.head-numbers.result) ++ (lines_of (bytes "MP.O.") 24 7 S.args.text.now 42 H.head-numbers.result)))
-author-fits c = let H = c.before.before.before.before.before.before.before.before.before in let S = H.before.before.before in other_lines (lines_of (bytes "MP.P.") 6 8 S.args.text.now 6 H.head-numbers.result) ((lines_of (bytes "MP.A.") 14 10 S.args.text.now 22 H.head-numbers.result) ++ (lines_of (bytes "MP.O.") 24 7 S.args.text.now 42 H.head-numbers.result)) (person-fits c.before.before.before.before.before.before) c.fields-b.ensures
+author-fits : (c : tie.After-fields-b) → let H = c.before.before.before.before.before.before.before.before.before.before in let S = H.before.before.before in Fits c.fields-b.new.0 c.fields-b.result (print ((lines_of (bytes "MP.A.") 14 10 S.args.text.now 22 H.head_numbers-numbers.result) ++ (lines_of (bytes "MP.O.") 24 7 S.args.text.now 42 H.head_numbers-numbers.result)))
+author-fits c = let H = c.before.before.before.before.before.before.before.before.before.before in let S = H.before.before.before in other_lines (lines_of (bytes "MP.P.") 6 8 S.args.text.now 6 H.head_numbers-numbers.result) ((lines_of (bytes "MP.A.") 14 10 S.args.text.now 22 H.head_numbers-numbers.result) ++ (lines_of (bytes "MP.O.") 24 7 S.args.text.now 42 H.head_numbers-numbers.result)) (person-fits c.before.before.before.before.before.before.before) c.fields-b.ensures
 
 -- those of O behind those of A
-measures-fit : (c : tie.After-fields-c) → let H = c.before.before.before.before.before.before.before.before.before.before.before.before.before.before.before in let S = H.before.before.before in Fits c.fields-c.new.0 c.fields-c.result (print (lines_of (bytes "MP.O.") 24 7 S.args.text.now 42 H.head-numbers.result))
-measures-fit c = let H = c.before.before.before.before.before.before.before.before.before.before.before.before.before.before.before in let S = H.before.before.before in other_lines (lines_of (bytes "MP.A.") 14 10 S.args.text.now 22 H.head-numbers.result) (lines_of (bytes "MP.O.") 24 7 S.args.text.now 42 H.head-numbers.result) (author-fits c.before.before.before.before.before.before) c.fields-c.ensures
+measures-fit : (c : tie.After-fields-c) → let H = c.before.before.before.before.before.before.before.before.before.before.before.before.before.before.before.before.before in let S = H.before.before.before in Fits c.fields-c.new.0 c.fields-c.result (print (lines_of (bytes "MP.O.") 24 7 S.args.text.now 42 H.head_numbers-numbers.result))
+measures-fit c = let H = c.before.before.before.before.before.before.before.before.before.before.before.before.before.before.before.before.before in let S = H.before.before.before in other_lines (lines_of (bytes "MP.A.") 14 10 S.args.text.now 22 H.head_numbers-numbers.result) (lines_of (bytes "MP.O.") 24 7 S.args.text.now 42 H.head_numbers-numbers.result) (author-fits c.before.before.before.before.before.before.before) c.fields-c.ensures
 
 head-numbers-requires : tie.Need-head_numbers-numbers-requires
 head-numbers-requires c κs = search rules
@@ -66,16 +66,16 @@ slice-aggregate-fields-2 : tie.Need-slice_bounds-fields-end-4
 slice-aggregate-fields-2 c = search rules
 
 fields-requires : tie.Need-fields-b-requires
-fields-requires c κs = let T = c.before.before.before.before.before in let H = T.before.before.before in let S = H.before.before.before in (search rules, search rules, inside-at H 2 8 (omega arith), (first_lines (lines_of (bytes "MP.P.") 6 8 S.args.text.now 6 H.head-numbers.result) ((lines_of (bytes "MP.A.") 14 10 S.args.text.now 22 H.head-numbers.result) ++ (lines_of (bytes "MP.O.") 24 7 S.args.text.now 42 H.head-numbers.result)) (person-fits T)).inside)
+fields-requires c κs = let T = c.before.before.before.before.before in let H = T.before.before.before.before in let S = H.before.before.before in (search rules, search rules, inside-at H 2 8 (omega arith), (first_lines (lines_of (bytes "MP.P.") 6 8 S.args.text.now 6 H.head_numbers-numbers.result) ((lines_of (bytes "MP.A.") 14 10 S.args.text.now 22 H.head_numbers-numbers.result) ++ (lines_of (bytes "MP.O.") 24 7 S.args.text.now 42 H.head_numbers-numbers.result)) (person-fits T.before)).inside)
 
 slice-aggregate-fields-3 : tie.Need-slice_bounds-fields-end-6
 slice-aggregate-fields-3 c = search rules
 
 fields-requires-2 : tie.Need-fields-c-requires
-fields-requires-2 c κs = let T = c.before.before.before.before.before in let H = T.before.before.before.before.before.before.before.before.before in let S = H.before.before.before in (search rules, search rules, inside-at H 10 10 (omega arith), (first_lines (lines_of (bytes "MP.A.") 14 10 S.args.text.now 22 H.head-numbers.result) (lines_of (bytes "MP.O.") 24 7 S.args.text.now 42 H.head-numbers.result) (author-fits T)).inside)
+fields-requires-2 c κs = let T = c.before.before.before.before.before in let H = T.before.before.before.before.before.before.before.before.before.before.before in let S = H.before.before.before in (search rules, search rules, inside-at H 10 10 (omega arith), (first_lines (lines_of (bytes "MP.A.") 14 10 S.args.text.now 22 H.head_numbers-numbers.result) (lines_of (bytes "MP.O.") 24 7 S.args.text.now 42 H.head_numbers-numbers.result) (author-fits T.before)).inside)
 
 fields-requires-3 : tie.Need-fields-requires
-fields-requires-3 c κs = let T = c.before.before.before.before.before in let H = T.before.before.before.before.before.before.before.before.before.before.before.before.before.before.before in (search rules, search rules, inside-at H 20 7 (omega arith), (measures-fit T).inside)
+fields-requires-3 c κs = let T = c.before.before.before.before.before in let H = T.before.before.before.before.before.before.before.before.before.before.before.before.before.before.before in (search rules, search rules, inside-at H.before.before.before 20 7 (omega arith), (measures-fit T.before).inside)
 
 same_length : tie.Need-shape_of-out
 same_length c = search rules
@@ -83,13 +83,13 @@ same_length c = search rules
 returns : tie.Need-returns
 returns c =
     let X = c.before.before in
-    let Y = X.before.before.before.before.before.before in
-    let Z = Y.before.before.before.before.before.before in
-    let T = Z.before.before.before.before.before.before in
+    let Y = X.before.before.before.before.before.before.before in
+    let Z = Y.before.before.before.before.before.before.before in
+    let T = Z.before.before.before.before.before.before.before in
     let H = T.before.before.before in
     let S = H.before.before.before in
-    wrote_as (ap print (head-is H)) (lines_written (mp_lines S.args.patch S.args.text.now H.head-numbers.result) ((lines_of (bytes "MP.P.") 6 8 S.args.text.now 6 H.head-numbers.result) ++ ((lines_of (bytes "MP.A.") 14 10 S.args.text.now 22 H.head-numbers.result) ++ (lines_of (bytes "MP.O.") 24 7 S.args.text.now 42 H.head-numbers.result))) (fit H) T.mp-lines.ensures
-    (lines_written (lines_of (bytes "MP.P.") 6 8 S.args.text.now 6 H.head-numbers.result) ((lines_of (bytes "MP.A.") 14 10 S.args.text.now 22 H.head-numbers.result) ++ (lines_of (bytes "MP.O.") 24 7 S.args.text.now 42 H.head-numbers.result)) (person-fits T) Z.fields.ensures (lines_written (lines_of (bytes "MP.A.") 14 10 S.args.text.now 22 H.head-numbers.result) (lines_of (bytes "MP.O.") 24 7 S.args.text.now 42 H.head-numbers.result) (author-fits Z) Y.fields2.ensures X.fields.ensures)))
+    wrote_as (ap print (head-is H)) (lines_written (mp_lines S.args.patch S.args.text.now H.head_numbers-numbers.result) ((lines_of (bytes "MP.P.") 6 8 S.args.text.now 6 H.head_numbers-numbers.result) ++ ((lines_of (bytes "MP.A.") 14 10 S.args.text.now 22 H.head_numbers-numbers.result) ++ (lines_of (bytes "MP.O.") 24 7 S.args.text.now 42 H.head_numbers-numbers.result))) (fit H) T.mp_lines-a.ensures
+    (lines_written (lines_of (bytes "MP.P.") 6 8 S.args.text.now 6 H.head_numbers-numbers.result) ((lines_of (bytes "MP.A.") 14 10 S.args.text.now 22 H.head_numbers-numbers.result) ++ (lines_of (bytes "MP.O.") 24 7 S.args.text.now 42 H.head_numbers-numbers.result)) (person-fits T) Z.fields-b.ensures (lines_written (lines_of (bytes "MP.A.") 14 10 S.args.text.now 22 H.head_numbers-numbers.result) (lines_of (bytes "MP.O.") 24 7 S.args.text.now 42 H.head_numbers-numbers.result) (author-fits Z) Y.fields-c.ensures X.fields.ensures)))
 
 pub head_lines_spec : {M : Type 1} → statement M
 head_lines_spec =

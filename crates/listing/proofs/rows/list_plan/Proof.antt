@@ -29,7 +29,7 @@ rows-lines-requires : tie.Need-rows_lines-b-requires
 rows-lines-requires c κs = let T = c.before.before.before in let S = T.before.before.before.before.before.before in (S.requires.0, S.requires.2, (first_lines (rows_part S.args.text.now S.args.plan S.args.rows.now) (count_part S.args.plan) (rows_fit T)).inside)
 
 count-line-requires : tie.Need-count_line-requires
-count-line-requires c κs = let R = c.before.before.before.before in let T = R.before.before.before.before in let S = T.before.before.before.before.before.before in (other_lines (rows_part S.args.text.now S.args.plan S.args.rows.now) (count_part S.args.plan) (rows_fit T) R.rows-lines.ensures).inside
+count-line-requires c κs = let R = c.before.before.before.before.before in let T = R.before.before.before.before in let S = T.before.before.before.before.before.before in (other_lines (rows_part S.args.text.now S.args.plan S.args.rows.now) (count_part S.args.plan) (rows_fit T) R.rows_lines-b.ensures).inside
 
 same_length : tie.Need-shape_of-out
 same_length c = search rules
@@ -37,11 +37,11 @@ same_length c = search rules
 returns : tie.Need-returns
 returns c =
     let N = c.before.before in
-    let R = N.before.before.before.before.before in
+    let R = N.before.before.before.before.before.before in
     let T = R.before.before.before.before in
     let S = T.before.before.before.before.before.before in
     written_whole (wrote_as (listing_is S.args.text.now S.args.plan S.args.rows.now)
-    (lines_written (head_part S.args.text.now S.args.plan) ((rows_part S.args.text.now S.args.plan S.args.rows.now) ++ (count_part S.args.plan)) (fit S) T.head-lines.ensures (lines_written (rows_part S.args.text.now S.args.plan S.args.rows.now) (count_part S.args.plan) (rows_fit T) R.rows-lines.ensures N.count_line.ensures)))
+    (lines_written (head_part S.args.text.now S.args.plan) ((rows_part S.args.text.now S.args.plan S.args.rows.now) ++ (count_part S.args.plan)) (fit S) T.head_lines-a.ensures (lines_written (rows_part S.args.text.now S.args.plan S.args.rows.now) (count_part S.args.plan) (rows_fit T) R.rows_lines-b.ensures N.count_line.ensures)))
 
 pub list_plan_spec : {M : Type 1} → statement M
 list_plan_spec =

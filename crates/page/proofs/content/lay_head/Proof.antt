@@ -25,23 +25,23 @@ head S = head_from (tags_at S.args.page.now 0)
 
 -- its values
 lang-eq : (c : tie.After-language-l) → c.language-l.result.now ∷ [] ≡ (head c.before.before.before.before.before.before.before).lang ∷ []
-lang-eq c = ap (λ (v : List ℕ). v ∷ []) c.language-l.ensures ∙ sym (lang_is (tags_at c.before.before.before.before.before.before.before.args.page.now 0))
+lang-eq c = ap (λ (v : List ℕ). v ∷ []) c.language-l.ensures ∙ sym (lang_is (tags_at c.before.before.before.before.before.before.before.before.args.page.now 0))
 
-person-eq : (c : tie.After-count_of) → values_at c.before.before.before.before.before.before.before.before.before.before.before.before.before.before.before.before.before.before.before.before.before.args.page.now c.before.before.before.before.before.before.before.before.before.before.before.before.before.before.before.before.before.before.before.before.before.args.side.now c.count_of.result c.before.before.before.before.before.before.before.before.before.before.before.before.before.before.before.before.before.before.before.before.before.args.tape.now c.before.before.before.before.before.before.before.before.before.before.before.before.before.before.before.before.before.before.before.before.before.args.h.person ≡ (head c.before.before.before.before.before.before.before.before.before.before.before.before.before.before.before.before.before.before.before.before.before).person
+person-eq : (c : tie.After-count_of) → values_at c.before.before.before.before.before.before.before.before.before.before.before.before.before.before.before.before.before.before.before.before.before.before.args.page.now c.before.before.before.before.before.before.before.before.before.before.before.before.before.before.before.before.before.before.before.before.before.before.args.side.now c.count_of.result c.before.before.before.before.before.before.before.before.before.before.before.before.before.before.before.before.before.before.before.before.before.before.args.tape.now c.before.before.before.before.before.before.before.before.before.before.before.before.before.before.before.before.before.before.before.before.before.before.args.h.person ≡ (head c.before.before.before.before.before.before.before.before.before.before.before.before.before.before.before.before.before.before.before.before.before).person
 unfolding head_from kind_at
-person-eq c = part_values c.before.before.before.before.before.before.before.before.before.before.before.before.before.before.before.before.before.before.before.before.before.requires.0.person_at c.count_of.result c.count_of.ensures.0
+person-eq c = part_values c.before.before.before.before.before.before.before.before.before.before.before.before.before.before.before.before.before.before.before.before.before.before.requires.0.person_at c.count_of.result c.count_of.ensures.0
 
-author-eq : (c : tie.After-count_of-2) → values_at c.before.before.before.before.before.before.before.before.before.before.before.before.before.before.before.before.before.before.before.before.before.before.before.before.before.before.before.before.args.page.now c.before.before.before.before.before.before.before.before.before.before.before.before.before.before.before.before.before.before.before.before.before.before.before.before.before.before.before.before.args.side.now c.count_of-2.result c.before.before.before.before.before.before.before.before.before.before.before.before.before.before.before.before.before.before.before.before.before.before.before.before.before.before.before.before.args.tape.now c.before.before.before.before.before.before.before.before.before.before.before.before.before.before.before.before.before.before.before.before.before.before.before.before.before.before.before.before.args.h.author ≡ (head c.before.before.before.before.before.before.before.before.before.before.before.before.before.before.before.before.before.before.before.before.before.before.before.before.before.before.before.before).author
+author-eq : (c : tie.After-count_of-2) → values_at c.before.before.before.before.before.before.before.before.before.before.before.before.before.before.before.before.before.before.before.before.before.before.before.before.before.before.before.before.before.args.page.now c.before.before.before.before.before.before.before.before.before.before.before.before.before.before.before.before.before.before.before.before.before.before.before.before.before.before.before.before.before.args.side.now c.count_of-2.result c.before.before.before.before.before.before.before.before.before.before.before.before.before.before.before.before.before.before.before.before.before.before.before.before.before.before.before.before.before.args.tape.now c.before.before.before.before.before.before.before.before.before.before.before.before.before.before.before.before.before.before.before.before.before.before.before.before.before.before.before.before.before.args.h.author ≡ (head c.before.before.before.before.before.before.before.before.before.before.before.before.before.before.before.before.before.before.before.before.before.before.before.before.before.before.before.before).author
 unfolding head_from kind_at
-author-eq c = part_values c.before.before.before.before.before.before.before.before.before.before.before.before.before.before.before.before.before.before.before.before.before.before.before.before.before.before.before.before.requires.0.author_at c.count_of-2.result c.count_of-2.ensures.0
+author-eq c = part_values c.before.before.before.before.before.before.before.before.before.before.before.before.before.before.before.before.before.before.before.before.before.before.before.before.before.before.before.before.before.requires.0.author_at c.count_of-2.result c.count_of-2.ensures.0
 
-measures-eq : (c : tie.After-count_of-3) → values_at c.before.before.before.before.before.before.before.before.before.before.before.before.before.before.before.before.before.before.before.before.before.before.before.before.before.before.before.before.before.before.before.before.before.before.before.args.page.now c.before.before.before.before.before.before.before.before.before.before.before.before.before.before.before.before.before.before.before.before.before.before.before.before.before.before.before.before.before.before.before.before.before.before.before.args.side.now c.count_of-3.result c.before.before.before.before.before.before.before.before.before.before.before.before.before.before.before.before.before.before.before.before.before.before.before.before.before.before.before.before.before.before.before.before.before.before.before.args.tape.now c.before.before.before.before.before.before.before.before.before.before.before.before.before.before.before.before.before.before.before.before.before.before.before.before.before.before.before.before.before.before.before.before.before.before.before.args.h.measures ≡ (head c.before.before.before.before.before.before.before.before.before.before.before.before.before.before.before.before.before.before.before.before.before.before.before.before.before.before.before.before.before.before.before.before.before.before.before).measures
+measures-eq : (c : tie.After-count_of-3) → values_at c.before.before.before.before.before.before.before.before.before.before.before.before.before.before.before.before.before.before.before.before.before.before.before.before.before.before.before.before.before.before.before.before.before.before.before.before.args.page.now c.before.before.before.before.before.before.before.before.before.before.before.before.before.before.before.before.before.before.before.before.before.before.before.before.before.before.before.before.before.before.before.before.before.before.before.before.args.side.now c.count_of-3.result c.before.before.before.before.before.before.before.before.before.before.before.before.before.before.before.before.before.before.before.before.before.before.before.before.before.before.before.before.before.before.before.before.before.before.before.before.args.tape.now c.before.before.before.before.before.before.before.before.before.before.before.before.before.before.before.before.before.before.before.before.before.before.before.before.before.before.before.before.before.before.before.before.before.before.before.before.args.h.measures ≡ (head c.before.before.before.before.before.before.before.before.before.before.before.before.before.before.before.before.before.before.before.before.before.before.before.before.before.before.before.before.before.before.before.before.before.before.before).measures
 unfolding head_from kind_at
-measures-eq c = part_values c.before.before.before.before.before.before.before.before.before.before.before.before.before.before.before.before.before.before.before.before.before.before.before.before.before.before.before.before.before.before.before.before.before.before.before.requires.0.measures_at c.count_of-3.result c.count_of-3.ensures.0
+measures-eq c = part_values c.before.before.before.before.before.before.before.before.before.before.before.before.before.before.before.before.before.before.before.before.before.before.before.before.before.before.before.before.before.before.before.before.before.before.before.before.requires.0.measures_at c.count_of-3.result c.count_of-3.ensures.0
 
 -- the rooms behind U, l, P and A
 room₀ : (c : tie.After-lay_slots-u) → Room ((head c.before.before.before.before.before.before.before.before.before.before.before).lang ∷ ((head c.before.before.before.before.before.before.before.before.before.before.before).person ++ ((head c.before.before.before.before.before.before.before.before.before.before.before).author ++ (head c.before.before.before.before.before.before.before.before.before.before.before).measures))) c.lay_slots-u.new.1.1.1.1.1.0 c.lay_slots-u.result
-room₀ c = room_behind ((head c.before.before.before.before.before.before.before.before.before.before.before).ident ∷ []) _ c.before.before.before.before.before.before.before.before.before.before.before.requires.2 (relay (ident_values c.before.before.before.before.before.before.before.before.before.before.before.requires.0.mp_at) c.lay_slots-u.ensures)
+room₀ c = room_behind ((head c.before.before.before.before.before.before.before.before.before.before.before).ident ∷ []) _ c.before.before.before.before.before.before.before.before.before.before.before.before.requires.2 (relay (ident_values c.before.before.before.before.before.before.before.before.before.before.before.before.requires.0.mp_at) c.lay_slots-u.ensures)
 
 room₁ : (c : tie.After-lay_one-m) → Room ((head c.before.before.before.before.before.before.before.before.before.before.before.before.before.before.before.before.before).person ++ ((head c.before.before.before.before.before.before.before.before.before.before.before.before.before.before.before.before.before).author ++ (head c.before.before.before.before.before.before.before.before.before.before.before.before.before.before.before.before.before).measures)) c.lay_one-m.new.1.0 c.lay_one-m.result
 room₁ c = room_behind ((head c.before.before.before.before.before.before.before.before.before.before.before.before.before.before.before.before.before).lang ∷ []) _ (room₀ c.before.before.before.before.before.before) (relay (lang-eq c.before.before.before.before.before.before.before.before.before.before) c.lay_one-m.ensures)
@@ -70,17 +70,17 @@ unfolding field_at fields_of
 mp-number-requires c κs = (c.before.before.before.before.requires.0.mp_at, c.before.before.before.before.requires.1, omega arith, omega arith)
 
 language-requires : tie.Need-language-l-requires
-language-requires c κs = c.before.before.before.before.before.before.requires.0.mp_at
+language-requires c κs = c.before.before.before.before.before.before.before.requires.0.mp_at
 
 add-lay-slots : tie.Need-overflow_add-h
-add-lay-slots c = omega (arith, mp_within c.before.before.before.before.before.before.before.before.requires.0.mp_at)
+add-lay-slots c = omega (arith, mp_within c.before.before.before.before.before.before.before.before.before.requires.0.mp_at)
 
 slice-aggregate-lay-slots : tie.Need-slice_bounds-lay_slots-end
 slice-aggregate-lay-slots c = refl
 
 lay-slots-requires : tie.Need-lay_slots-u-requires
 lay-slots-requires c κs =
-    let S = c.before.before.before.before.before.before.before.before.before.before in
+    let S = c.before.before.before.before.before.before.before.before.before.before.before in
     let m = S.requires.0.mp_at in
     (omega (arith, mp_within m), ident_lie m, reroom (sym (ident_values m)) (room_first ((head S).ident ∷ []) _ _ _ S.requires.2), omega arith)
 
@@ -99,7 +99,7 @@ slice-aggregate-lay-slots-2 c = sym (long₁ c.before.before.before.before.befor
 lay-slots-requires-2 : tie.Need-lay_slots-p-requires
 unfolding kind_at
 lay-slots-requires-2 c κs =
-    let P = c.before.before.before.before.before.before.before.before.before.before.before.before.before.before.before.before.before.before.before.before.before.before.before.requires.0.person_at in
+    let P = c.before.before.before.before.before.before.before.before.before.before.before.before.before.before.before.before.before.before.before.before.before.before.before.before.requires.0.person_at in
     let e = c.before.before.count_of.ensures.0 in
     (part_within P _ e, part_lie P _ e, reroom (sym (person-eq c.before.before)) (room_first (head c.before.before.before.before.before.before.before.before.before.before.before.before.before.before.before.before.before.before.before.before.before.before.before).person _ _ _ (room₁ c.before.before.before.before.before.before)), omega (arith, e, p_room, long₁ c.before.before.before.before.before.before))
 
@@ -112,7 +112,7 @@ slice-aggregate-lay-slots-3 c = sym (long₂ c.before.before.before.before.befor
 lay-slots-requires-3 : tie.Need-lay_slots-a-requires
 unfolding kind_at
 lay-slots-requires-3 c κs =
-    let P = c.before.before.before.before.before.before.before.before.before.before.before.before.before.before.before.before.before.before.before.before.before.before.before.before.before.before.before.before.before.before.requires.0.author_at in
+    let P = c.before.before.before.before.before.before.before.before.before.before.before.before.before.before.before.before.before.before.before.before.before.before.before.before.before.before.before.before.before.before.before.requires.0.author_at in
     let e = c.before.before.count_of-2.ensures.0 in
     (part_within P _ e, part_lie P _ e, reroom (sym (author-eq c.before.before)) (room_first (head c.before.before.before.before.before.before.before.before.before.before.before.before.before.before.before.before.before.before.before.before.before.before.before.before.before.before.before.before.before.before).author _ _ _ (room₂ c.before.before.before.before.before.before)), omega (arith, e, a_room, long₂ c.before.before.before.before.before.before))
 
@@ -125,7 +125,7 @@ slice-aggregate-lay-slots-4 c = sym (long₃ c.before.before.before.before.befor
 lay-slots-requires-4 : tie.Need-lay_slots-e-requires
 unfolding kind_at
 lay-slots-requires-4 c κs =
-    let P = c.before.before.before.before.before.before.before.before.before.before.before.before.before.before.before.before.before.before.before.before.before.before.before.before.before.before.before.before.before.before.before.before.before.before.before.before.before.requires.0.measures_at in
+    let P = c.before.before.before.before.before.before.before.before.before.before.before.before.before.before.before.before.before.before.before.before.before.before.before.before.before.before.before.before.before.before.before.before.before.before.before.before.before.before.requires.0.measures_at in
     let e = c.before.before.count_of-3.ensures.0 in
     (part_within P _ e, part_lie P _ e, reroom (sym (measures-eq c.before.before)) (room₃ c.before.before.before.before.before.before), omega (arith, e, o_room, long₃ c.before.before.before.before.before.before))
 
@@ -137,7 +137,7 @@ same_length c = c.before.before.before.before.before.lay_slots-e.auto.1.1.1.1.1.
 
 returns : tie.Need-returns
 returns c =
-    let S = c.before.before.before.before.before.before.before.before.before.before.before.before.before.before.before.before.before.before.before.before.before.before.before.before.before.before.before.before.before.before.before.before.before.before.before.before.before.before.before.before.before.before.before in
+    let S = c.before.before.before.before.before.before.before.before.before.before.before.before.before.before.before.before.before.before.before.before.before.before.before.before.before.before.before.before.before.before.before.before.before.before.before.before.before.before.before.before.before.before.before.before in
     let ts = tags_at S.args.page.now 0 in
     let h = head S in
     let L₀ = relay (ident_values S.requires.0.mp_at) c.before.before.before.before.before.before.before.before.before.before.before.before.before.before.before.before.before.before.before.before.before.before.before.before.before.before.before.before.before.before.before.before.lay_slots-u.ensures in
@@ -148,7 +148,7 @@ returns c =
     record {
       end_is = H.end_is;
       text_is = H.text_is;
-      patch_is = c.before.before.before.before.before.before.before.before.before.before.before.before.before.before.before.before.before.before.before.before.before.before.before.before.before.before.before.before.before.before.before.before.before.before.before.before.before.before.mp-number.ensures ∙ sym (patch_is ts);
+      patch_is = c.before.before.before.before.before.before.before.before.before.before.before.before.before.before.before.before.before.before.before.before.before.before.before.before.before.before.before.before.before.before.before.before.before.before.before.before.before.before.before.mp_number-patch.ensures ∙ sym (patch_is ts);
       spans_are = head_spans_lem h S.args.n _ _ _ (head_full ts) refl H.numbers_are c.spans_of-spans.ensures;
     }
 

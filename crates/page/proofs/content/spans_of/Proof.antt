@@ -55,11 +55,11 @@ loop-less c = search rules
 
 loop-again : tie.Need-loop-j-preserved invariant-loop decreases-loop
 loop-again c =
-    let I = c.before.before in
+    let I = c.before.before.before in
     let L = I.before in
     let S = L.before in
-    let w = L.loop.invariant.1 in
-    (search rules, simp length-set w, pair_turn S.args.numbers.now L.loop.spans L.loop.j (pairs 27 S.args.numbers.now) I.loop-test.true w L.loop.invariant.2)
+    let w = L.loop-j.invariant.1 in
+    (search rules, simp length-set w, pair_turn S.args.numbers.now L.loop-j.spans L.loop-j.j (pairs 27 S.args.numbers.now) I.loop-j-test.true w L.loop-j.invariant.2)
 
 returns : tie.Need-returns invariant-loop decreases-loop
 returns c =

@@ -21,14 +21,14 @@ element-copy-out-result : tie.Need-bounds-letters-kind
 element-copy-out-result c = search rules
 
 cast-result : tie.Need-overflow_cast-result-2
-cast-result c = let S = c.before in rw S.requires.1 (entry_low _)
+cast-result c = let S = c.before.before in rw S.requires.1 (entry_low _)
 
 sub-result : tie.Need-overflow_sub-result
-sub-result c = let S = c.before in let e : get_or S.args.letters.now (S.args.kind * 128 + 1) 0 ≡ 128 + first_of (kind_at S.args.kind) = rw S.requires.1 (first_entry S.args.kind S.requires.0) in omega (arith, e)
+sub-result c = let S = c.before.before in let e : get_or S.args.letters.now (S.args.kind * 128 + 1) 0 ≡ 128 + first_of (kind_at S.args.kind) = rw S.requires.1 (first_entry S.args.kind S.requires.0) in omega (arith, e)
 
 returns : tie.Need-returns
 returns c =
-    let S = c.before in
+    let S = c.before.before in
     let e : get_or S.args.letters.now (S.args.kind * 128 + 1) 0 ≡ 128 + first_of (kind_at S.args.kind) = rw S.requires.1 (first_entry S.args.kind S.requires.0) in
     omega (arith, e)
 

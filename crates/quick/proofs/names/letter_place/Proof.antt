@@ -45,17 +45,17 @@ add-result : tie.Need-overflow_add-result
 add-result c = omega (arith, c.before.before.before.before.before.before.before.before.requires.2, c.if-b-gt127.false)
 
 element-copy-out-result : tie.Need-bounds-letters-kind
-element-copy-out-result c = omega (arith, c.before.before.before.before.before.before.before.before.requires.2, c.if3.false)
+element-copy-out-result c = omega (arith, c.before.before.before.before.before.before.before.before.before.requires.2, c.before.if-b-gt127.false)
 
 cast-result-2 : tie.Need-overflow_cast-result-then-is_quote-2
-cast-result-2 c = let S = c.before.before.before.before.before.before.before.before.before in rw S.requires.3 (entry_low _)
+cast-result-2 c = let S = c.before.before.before.before.before.before.before.before.before.before in rw S.requires.3 (entry_low _)
 
 returns-3 : tie.Need-returns-then-is_quote
 returns-3 c = λ h.
-    let S = c.before.before.before.before.before.before.before.before.before in
-    let b = c.before.before.byte-or3.ensures in
-    letter_found S.args.page.now S.args.kind S.args.a c.before.before.byte-or3.result S.args.letters.now S.requires.2 S.requires.3 b
-    (sym c.before.before.before.before.before.before.before.byte_or.ensures ∙ c.before.before.before.before.before.before.if1.false) (rw c.before.before.before.before.before.byte-or2.ensures at (c.before.before.before.before.is-quote.ensures c.before.before.before.if2.true)) (omega (arith, c.before.if3.false)) h
+    let S = c.before.before.before.before.before.before.before.before.before.before in
+    let b = c.before.before.before.byte_or-b.ensures in
+    letter_found S.args.page.now S.args.kind S.args.a c.before.before.before.byte_or-b.result S.args.letters.now S.requires.2 S.requires.3 b
+    (sym c.before.before.before.before.before.before.before.before.byte_or.ensures ∙ c.before.before.before.before.before.before.before.if-byte_or-ne61.false) (rw c.before.before.before.before.before.before.byte_or-2.ensures at (c.before.before.before.before.before.is_quote.ensures c.before.before.before.before.if-is_quote.true)) (omega (arith, c.before.before.if-b-gt127.false)) h
 
 returns-4 : tie.Need-returns
 returns-4 c = λ h. absurd (omega (arith, h))

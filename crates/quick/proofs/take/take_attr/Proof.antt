@@ -27,7 +27,7 @@ add-s : tie.Need-overflow_add-s
 add-s c = let N = c.before.before.before.take_name-named.ensures c.before.if-named-eq0.false in omega (arith, N.known, c.before.before.before.before.before.before.before.requires.5, c.before.before.before.before.before.before.before.requires.6)
 
 is-free-requires : tie.Need-is_free-requires
-is-free-requires c κs = let N = c.before.before.before.before.take-name.ensures c.before.before.if1.false in omega (arith, N.known, c.before.before.before.before.before.before.before.before.requires.5)
+is-free-requires c κs = let N = c.before.before.before.take_name-named.ensures c.before.if-named-eq0.false in omega (arith, N.known, c.before.before.before.before.before.before.before.requires.5)
 
 same_length : tie.Need-shape_of-tape-then-not-is_free
 same_length c = search rules
@@ -36,19 +36,19 @@ returns-2 : tie.Need-returns-then-not-is_free
 returns-2 c = λ n. absurd (n refl)
 
 first-in-requires : tie.Need-first_in-requires
-first-in-requires c κs = let S = c.before.before.before.before.before.before.before.before.before.before in (S.requires.2, S.requires.3.letters_are)
+first-in-requires c κs = let S = c.before.before.before.before.before.before.before.before.before in (S.requires.2, S.requires.3.letters_are)
 
 add-id : tie.Need-overflow_add-id
 add-id c =
-    let N = c.before.before.before.before.before.before.before.before.take-name.ensures c.before.before.before.before.before.before.if1.false in
-    let k = kind_at c.before.before.before.before.before.before.before.before.before.before.before.before.args.kind in
+    let N = c.before.before.before.before.before.before.before.take_name-named.ensures c.before.before.before.before.before.if-named-eq0.false in
+    let k = kind_at c.before.before.before.before.before.before.before.before.before.before.before.args.kind in
     let h = counted k _ N.known in
-    omega (arith, h, part_within c.before.before.before.before.before.before.before.before.before.before.before.before.args.kind c.before.before.before.before.before.before.before.before.before.before.before.before.requires.2, c.before.first_in.ensures)
+    omega (arith, h, part_within c.before.before.before.before.before.before.before.before.before.before.before.args.kind c.before.before.before.before.before.before.before.before.before.before.before.requires.2, c.before.first_in.ensures)
 
 take-value-requires : tie.Need-take_value-judged-requires
 take-value-requires c κs =
-    let S = c.before.before.before.before.before.before.before.before.before.before.before.before.before in
-    let N = c.before.before.before.before.before.before.before.before.before.take-name.ensures c.before.before.before.before.before.before.before.if1.false in
+    let S = c.before.before.before.before.before.before.before.before.before.before.before.before in
+    let N = c.before.before.before.before.before.before.before.before.take_name-named.ensures c.before.before.before.before.before.before.if-named-eq0.false in
     let h = counted (kind_at S.args.kind) _ N.known in
     (omega (arith, N.within.0), N.within.1, S.requires.1, N.quoted, omega (arith, h, part_within S.args.kind S.requires.2, c.before.before.first_in.ensures), S.requires.4, S.requires.7, S.requires.8)
 
@@ -63,8 +63,8 @@ returns-3 c = λ n. absurd (n refl)
 
 put-requires : tie.Need-put-requires
 put-requires c κs =
-    let S = c.before.before.before.before.before.before.before.before.before.before.before.before.before.before.before.before.before.before.before in
-    let N = c.before.before.before.before.before.before.before.before.before.before.before.before.before.before.before.take-name.ensures c.before.before.before.before.before.before.before.before.before.before.before.before.before.if1.false in
+    let S = c.before.before.before.before.before.before.before.before.before.before.before.before.before.before.before.before.before.before in
+    let N = c.before.before.before.before.before.before.before.before.before.before.before.before.before.before.take_name-named.ensures c.before.before.before.before.before.before.before.before.before.before.before.before.if-named-eq0.false in
     let val = (c.before.before.before.before.before.take_value-judged.ensures c.before.if-judged-eq0.false).0 in
     let sm = small_span S.args.page.now _ _ _ S.requires.1 val.span in
     (omega (arith, N.known, S.requires.5), sm.0, sm.1)
@@ -72,7 +72,7 @@ put-requires c κs =
 add-t17 : tie.Need-overflow_add-result
 add-t17 c =
     let val = (c.before.before.before.before.before.before.before.before.before.take_value-judged.ensures c.before.before.before.before.before.if-judged-eq0.false).0 in
-    omega (arith, val.raw.within.1, c.before.before.before.before.before.before.before.before.before.before.before.before.before.before.before.before.before.before.before.before.before.before.before.requires.1)
+    omega (arith, val.raw.within.1, c.before.before.before.before.before.before.before.before.before.before.before.before.before.before.before.before.before.before.before.before.before.before.requires.1)
 
 same-length-4 : tie.Need-shape_of-tape
 same-length-4 c = search rules
@@ -82,13 +82,13 @@ same-length-5 c = search rules
 
 returns-4 : tie.Need-returns
 returns-4 c = λ n.
-    let S = c.before.before.before.before.before.before.before.before.before.before.before.before.before.before.before.before.before.before.before.before.before.before.before in
+    let S = c.before.before.before.before.before.before.before.before.before.before.before.before.before.before.before.before.before.before.before.before.before.before in
     let k = kind_at S.args.kind in
     let w = S.args.page.now in
-    let N = c.before.before.before.before.before.before.before.before.before.before.before.before.before.before.before.before.before.before.before.take-name.ensures c.before.before.before.before.before.before.before.before.before.before.before.before.before.before.before.before.before.if1.false in
-    let j = c.before.before.before.before.before.before.before.before.before.before.before.before.before.before.before.before.before.before.before.take-name.result.field in
-    let v = c.before.before.before.before.before.before.before.before.before.before.before.before.before.before.before.before.before.before.before.take-name.result.at in
-    let q = c.before.before.before.before.before.before.before.before.before.before.before.before.before.before.before.before.before.before.before.take-name.result.quote in
+    let N = c.before.before.before.before.before.before.before.before.before.before.before.before.before.before.before.before.before.before.take_name-named.ensures c.before.before.before.before.before.before.before.before.before.before.before.before.before.before.before.before.if-named-eq0.false in
+    let j = c.before.before.before.before.before.before.before.before.before.before.before.before.before.before.before.before.before.before.take_name-named.result.field in
+    let v = c.before.before.before.before.before.before.before.before.before.before.before.before.before.before.before.before.before.before.take_name-named.result.at in
+    let q = c.before.before.before.before.before.before.before.before.before.before.before.before.before.before.before.before.before.before.take_name-named.result.quote in
     let J = c.before.before.before.before.before.before.before.before.before.take_value-judged.result in
     let E = c.before.before.before.before.before.before.before.before.before.take_value-judged.ensures c.before.before.before.before.before.if-judged-eq0.false in
     let val = E.0 in

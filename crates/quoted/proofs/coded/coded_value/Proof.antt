@@ -84,17 +84,17 @@ shared-slice-read-if3 : tie.Need-bounds-page-e invariant-loop decreases-loop
 shared-slice-read-if3 c = let O = c.before.before.before.before.before.before.before.before.ordinary_end-e.ensures in omega (arith, O.2, c.before.before.before.before.before.before.before.if-e-page.false)
 
 trimmed-requires : tie.Need-trimmed-end-requires invariant-loop decreases-loop
-trimmed-requires c κs = let R = ran (c.before.before) in (omega (arith, R.behind), R.fits)
+trimmed-requires c κs = let R = ran (c.before) in (omega (arith, R.behind), R.fits)
 
 same-length-3 : tie.Need-shape_of-side-then-page-e invariant-loop decreases-loop
-same-length-3 c = let R = ran (c.before.before.before) in R.long
+same-length-3 c = let R = ran (c.before.before) in R.long
 
 returns-3 : tie.Need-returns-then-page-e invariant-loop decreases-loop
 returns-3 c = λ n.
-    let S = c.before.before.before.before.before.before.before.before.before.before.before.before.before.before.before.before in
-    let O = c.before.before.before.before.before.before.before.before.before.before.before.ordinary-end.ensures in
+    let S = c.before.before.before.before.before.before.before.before.before.before.before.before.before.before.before in
+    let O = c.before.before.before.before.before.before.before.before.before.before.ordinary_end-e.ensures in
     let T = c.trimmed-end.ensures in
-    coding_done S.requires.3 (ran (c.before.before.before)) c.trimmed-end.result S.requires.4 (omega (arith, O.2, c.before.before.before.before.before.before.before.before.before.before.if1.false)) c.before.before.if3.true T.0 T.1 T.2
+    coding_done S.requires.3 (ran (c.before.before)) c.trimmed-end.result S.requires.4 (omega (arith, O.2, c.before.before.before.before.before.before.before.before.before.if-e-page.false)) c.before.if-page-e.true T.0 T.1 T.2
 
 odd-at-requires : tie.Need-odd_at-o-requires invariant-loop decreases-loop
 odd-at-requires c κs = let O = c.before.before.before.before.before.before.before.before.before.ordinary_end-e.ensures in (omega (arith, O.2, c.before.before.before.before.before.before.before.before.if-e-page.false), c.before.before.before.before.before.before.before.before.before.before.before.before.before.before.requires.1)

@@ -101,7 +101,7 @@ add-result-3 c = search rules
 
 returns-7 : tie.Need-returns-then-reads
 returns-7 c = λ n.
-    let S = c.before.before.before.before.before.before in
+    let S = c.before.before.before.before.before.before.before in
     let R = c.before.reads.ensures c.if-reads.true in
     word_at S.args.page.now S.args.at (S.args.at + 4) _ (omega arith) R.0 R.1 amp
 
@@ -116,7 +116,7 @@ add-result-4 c = search rules
 
 returns-8 : tie.Need-returns-then-reads-2
 returns-8 c = λ n.
-    let S = c.before.before.before.before.before.before.before.before.before in
+    let S = c.before.before.before.before.before.before.before.before.before.before.before in
     let R = c.before.reads-2.ensures c.if-reads-2.true in
     word_at S.args.page.now S.args.at (S.args.at + 3) _ (omega arith) R.0 R.1 lt
 
@@ -131,7 +131,7 @@ add-result-5 c = search rules
 
 returns-9 : tie.Need-returns-then-reads-3
 returns-9 c = λ n.
-    let S = c.before.before.before.before.before.before.before.before.before.before.before.before in
+    let S = c.before.before.before.before.before.before.before.before.before.before.before.before.before.before.before in
     let R = c.before.reads-3.ensures c.if-reads-3.true in
     word_at S.args.page.now S.args.at (S.args.at + 3) _ (omega arith) R.0 R.1 gt
 
@@ -146,7 +146,7 @@ add-result-6 c = search rules
 
 returns-10 : tie.Need-returns-then-reads-4
 returns-10 c = λ n.
-    let S = c.before.before.before.before.before.before.before.before.before.before.before.before.before.before.before in
+    let S = c.before.before.before.before.before.before.before.before.before.before.before.before.before.before.before.before.before.before.before in
     let R = c.before.reads-4.ensures c.if-reads-4.true in
     word_at S.args.page.now S.args.at (S.args.at + 5) _ (omega arith) R.0 R.1 quot
 
@@ -161,7 +161,7 @@ add-result-7 c = search rules
 
 returns-11 : tie.Need-returns-then-reads-5
 returns-11 c = λ n.
-    let S = c.before.before.before.before.before.before.before.before.before.before.before.before.before.before.before.before.before.before in
+    let S = c.before.before.before.before.before.before.before.before.before.before.before.before.before.before.before.before.before.before.before.before.before.before.before in
     let R = c.before.reads-5.ensures c.if-reads-5.true in
     word_at S.args.page.now S.args.at (S.args.at + 5) _ (omega arith) R.0 R.1 apos
 

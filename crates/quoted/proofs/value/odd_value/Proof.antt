@@ -22,17 +22,17 @@ returns : tie.Need-returns-then-coded-eq0
 returns c = λ n. absurd (n refl)
 
 is-absent-requires : tie.Need-is_absent-requires
-is-absent-requires c κs = let S = c.before.before.before.before.before.before.before.before.before in let C = c.before.before.before.before.before.coded-value.ensures c.before.if1.false in (C.within.0, C.within.1, S.requires.4, S.requires.5.limits_are)
+is-absent-requires c κs = let S = c.before.before.before.before.before.before.before.before in let C = c.before.before.before.before.coded_value-coded.ensures c.if-coded-eq0.false in (C.within.0, C.within.1, S.requires.4, S.requires.5.limits_are)
 
 same-length-2 : tie.Need-shape_of-side-then-is_absent
 same-length-2 c = search rules
 
 returns-2 : tie.Need-returns-then-is_absent
 returns-2 c = λ n.
-    let S = c.before.before.before.before.before.before.before.before.before.before.before in
-    let C = c.before.before.before.before.before.before.before.coded-value.ensures c.before.before.before.if1.false in
+    let S = c.before.before.before.before.before.before.before.before.before.before in
+    let C = c.before.before.before.before.before.before.coded_value-coded.ensures c.before.before.if-coded-eq0.false in
     let id = S.args.id in
-    let long = c.before.before.before.before.before.before.before.coded-value.auto.1.1.1.1.0 in
+    let long = c.before.before.before.before.before.before.coded_value-coded.auto.1.1.1.1.0 in
     let e = settled_none (field_at id) _ (sym c.before.is_absent.ensures ∙ c.if-is_absent.true) in (
       none_there S.args.page.now S.args.at S.args.q id _ C.raw S.requires.0 S.requires.2 _ S.args.used (omega (arith, S.requires.6, long)) (e ∙ ap (settle (field_at id)) C.right),
       record { same = C.same; up = omega arith },
@@ -50,10 +50,10 @@ returns-3 c = λ n. absurd (n refl)
 
 keeps-text-requires : tie.Need-keeps_text-requires
 keeps-text-requires c κs =
-    let S = c.before.before.before.before.before.before.before.before.before.before.before.before.before.before.before in
+    let S = c.before.before.before.before.before.before.before.before.before.before.before.before.before in
     let T = S.requires.5 in
-    let C = c.before.before.before.before.before.before.before.before.before.before.before.coded-value.ensures c.before.before.before.before.before.before.before.if1.false in
-    (C.within.0, C.within.1, S.requires.4, T.limits_are, C.clean, omega (arith, C.broken, c.before.if3.false, c.before.before.before.tildes-in.ensures))
+    let C = c.before.before.before.before.before.before.before.before.before.coded_value-coded.ensures c.before.before.before.before.before.if-coded-eq0.false in
+    (C.within.0, C.within.1, S.requires.4, T.limits_are, C.clean, omega (arith, C.broken, c.if-coded-tildes_in.false, c.before.before.tildes_in.ensures))
 
 add-t20 : tie.Need-overflow_add-result
 add-t20 c = search rules
@@ -63,16 +63,16 @@ same-length-4 c = search rules
 
 returns-4 : tie.Need-returns-then-keeps_text
 returns-4 c = λ n.
-    let S = c.before.before.before.before.before.before.before.before.before.before.before.before.before.before.before.before.before in
-    let C = c.before.before.before.before.before.before.before.before.before.before.before.before.before.coded-value.ensures c.before.before.before.before.before.before.before.before.before.if1.false in
+    let S = c.before.before.before.before.before.before.before.before.before.before.before.before.before.before.before in
+    let C = c.before.before.before.before.before.before.before.before.before.before.before.coded_value-coded.ensures c.before.before.before.before.before.before.before.if-coded-eq0.false in
     let id = S.args.id in
     let m = S.args.used in
-    let z = c.before.before.before.before.before.before.before.before.before.before.before.before.before.coded-value.result.end in
-    let long = c.before.before.before.before.before.before.before.before.before.before.before.before.before.coded-value.auto.1.1.1.1.0 in
-    let a = sym c.before.before.before.before.before.before.before.is-absent.ensures ∙ c.before.before.before.before.before.before.if2.false in
+    let z = c.before.before.before.before.before.before.before.before.before.before.before.coded_value-coded.result.end in
+    let long = c.before.before.before.before.before.before.before.before.before.before.before.coded_value-coded.auto.1.1.1.1.0 in
+    let a = sym c.before.before.before.before.before.before.is_absent.ensures ∙ c.before.before.before.before.before.if-is_absent.false in
     let e = settled_some (field_at id) _ a in (
       in_side S.args.page.now S.args.at S.args.q id _ C.raw S.requires.0 S.requires.2 _ m z
-          (not_empty (field_at id) c.before.before.before.before.before.before.before.before.before.before.before.before.before.coded-value.new.1.1.1.1.0 m z C.within.0 a) C.within.1 (omega (arith, S.requires.7, long)) C.right e
+          (not_empty (field_at id) c.before.before.before.before.before.before.before.before.before.before.before.coded_value-coded.new.1.1.1.1.0 m z C.within.0 a) C.within.1 (omega (arith, S.requires.7, long)) C.right e
           (c.before.keeps_text.ensures c.if-keeps_text.true),
       record { same = C.same; up = C.within.0 },
       omega (arith, C.short),

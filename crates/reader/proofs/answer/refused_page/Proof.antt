@@ -16,22 +16,22 @@ past : (n k : ℕ) → k ≤ n → (n ≡ k → ⊥) → k + 1 ≤ n
 past n k h ne = omega arith
 
 returns : tie.Need-returns-in-2
-returns c = rw (c.in-2.keys1, c.before.requires.size_place c.in-2.keys1)
+returns c = rw (c.in-2.is, c.before.requires.size_place c.in-2.is)
 
 returns-2 : tie.Need-returns-in-3
-returns-2 c = as-found _ 3 _ _ c.in-3.keys2
+returns-2 c = as-found _ 3 _ _ c.in-3.is
 
 returns-3 : tie.Need-returns-in-4
-returns-3 c = as-found _ 4 _ _ c.in-4.keys3
+returns-3 c = as-found _ 4 _ _ c.in-4.is
 
 returns-4 : tie.Need-returns-in-5
-returns-4 c = as-found _ 5 _ _ c.in-5.keys4
+returns-4 c = as-found _ 5 _ _ c.in-5.is
 
 returns-5 : tie.Need-returns-in-6
-returns-5 c = as-found _ 6 _ _ c.in-6.keys5
+returns-5 c = as-found _ 6 _ _ c.in-6.is
 
 returns-6 : tie.Need-returns-in-7
-returns-6 c = as-found _ 7 _ _ c.in-7.keys6
+returns-6 c = as-found _ 7 _ _ c.in-7.is
 
 returns-7 : tie.Need-returns-in_default
 returns-7 c =

@@ -36,28 +36,28 @@ element-copy-out-find-head-2 c = search rules
 
 find-head-requires : tie.Need-find_head-places-requires
 find-head-requires c κs =
-    let start = c.before.before.before.before.before.before.before.before.before.before in
-    read_at start.requires.2 0 (one start) c.before.before.page-at.ensures
+    let start = c.before.before.before.before.before.before.before.before.before.before.before in
+    read_at start.requires.2 0 (one start) c.before.before.before.page_at-first.ensures
 
 lay-head-requires : tie.Need-lay_head-head-requires
 lay-head-requires c κs =
-    let at-fit = c.before.before.before.before in
-    let S = c.before.before.before.before.before.before.before.before.before.before.before.before in
+    let at-fit = c.before.before.before.before.before in
+    let S = c.before.before.before.before.before.before.before.before.before.before.before.before.before in
     let a = S.args in
-    (c.before.find-Head.ensures, (fits at-fit).fit, head_place (pages_at a.buffer.now a.starts.now a.lens.now) a.z (paged S) S.requires.4 _ _ at-fit.page-at.ensures S.requires.8 S.requires.9)
+    (c.before.find-Head.ensures, (fits at-fit).fit, head_place (pages_at a.buffer.now a.starts.now a.lens.now) a.z (paged S) S.requires.4 _ _ at-fit.page_at-first.ensures S.requires.8 S.requires.9)
 
 fill-pages-requires : tie.Need-fill_pages-filled-requires
 fill-pages-requires c κs =
     let H = c.before.before.before.before in
-    let S = c.before.before.before.before.before.before.before.before.before.before.before.before.before.before.before.before.before in
+    let S = c.before.before.before.before.before.before.before.before.before.before.before.before.before.before.before.before.before.before in
     let a = S.args in
     let l : 12600 ≤ length H.lay_head-head.new.1.1.1.1.0 = omega (arith, S.requires.9, H.lay_head-head.auto.1.1.1.1.0) in
-    let P = rows_place (pages_at a.buffer.now a.starts.now a.lens.now) a.z (paged S) S.requires.4 _ H.lay_head-head.new.1.1.1.1.0 a.rows.now _ c.before.before.before.before.before.before.before.before.before.page-at.ensures S.requires.6 S.requires.7 S.requires.8 l H.lay_head-head.ensures.end_is in
+    let P = rows_place (pages_at a.buffer.now a.starts.now a.lens.now) a.z (paged S) S.requires.4 _ H.lay_head-head.new.1.1.1.1.0 a.rows.now _ c.before.before.before.before.before.before.before.before.before.before.page_at-first.ensures S.requires.6 S.requires.7 S.requires.8 l H.lay_head-head.ensures.end_is in
     (S.requires.1, S.requires.2, S.requires.3, S.requires.5, P.room, P.records)
 
 cast-t28 : tie.Need-overflow_cast-result
 cast-t28 c =
-    let S = c.before.before.before.before.before.before.before.before.before.before.before.before.before.before.before.before.before.before.before.before.before.before.before.before in
+    let S = c.before.before.before.before.before.before.before.before.before.before.before.before.before.before.before.before.before.before.before.before.before.before.before.before.before in
     let a = S.args in
     let f = rows_few (pages_at a.buffer.now a.starts.now a.lens.now) a.z (paged S) S.requires.4 S.requires.6 in omega (arith, c.before.before.before.before.before.before.fill_pages-filled.ensures.next_is, f)
 
@@ -69,9 +69,9 @@ same-length-2 c = search rules
 
 returns : tie.Need-returns
 returns c =
-    let S = c.before.before.before.before.before.before.before.before.before.before.before.before.before.before.before.before.before.before.before.before.before.before.before.before in
+    let S = c.before.before.before.before.before.before.before.before.before.before.before.before.before.before.before.before.before.before.before.before.before.before.before.before.before in
     let a = S.args in
-    plan_made (pages_at a.buffer.now a.starts.now a.lens.now) a.z (paged S) S.requires.4 _ a.text.now _ _ a.rows.now _ _ _ _ _ _ c.before.before.before.before.before.before.before.before.before.before.before.before.before.before.before.before.page-at.ensures (omega (arith, S.requires.8, S.requires.9)) c.before.before.before.before.before.before.before.before.before.before.before.lay_head-head.ensures c.before.before.before.before.before.before.fill_pages-filled.ensures
+    plan_made (pages_at a.buffer.now a.starts.now a.lens.now) a.z (paged S) S.requires.4 _ a.text.now _ _ a.rows.now _ _ _ _ _ _ c.before.before.before.before.before.before.before.before.before.before.before.before.before.before.before.before.before.page_at-first.ensures (omega (arith, S.requires.8, S.requires.9)) c.before.before.before.before.before.before.before.before.before.before.before.lay_head-head.ensures c.before.before.before.before.before.before.fill_pages-filled.ensures
 
 pub fill_all_spec : {M : Type 1} → statement M
 fill_all_spec =

@@ -39,26 +39,26 @@ mul-fill-rows : tie.Need-offset_bounds-firsts-p
 mul-fill-rows c = omega (arith, there c.before, c.before.before.before.before.before.before.before.before.before.before.requires.0)
 
 element-copy-out-fill-rows : tie.Need-bounds-firsts-p
-element-copy-out-fill-rows c = omega (arith, there c.before, c.before.before.before.before.before.before.before.before.before.before.requires.0)
+element-copy-out-fill-rows c = omega (arith, there c.before.before, c.before.before.before.before.before.before.before.before.before.before.before.requires.0)
 
 add-fill-rows : tie.Need-overflow_add-p
-add-fill-rows c = omega (arith, there c.before.before, c.before.before.before.before.before.before.before.before.before.before.before.requires.0)
+add-fill-rows c = omega (arith, there c.before.before.before, c.before.before.before.before.before.before.before.before.before.before.before.before.requires.0)
 
 mul-fill-rows-2 : tie.Need-offset_bounds-firsts-p-2
-mul-fill-rows-2 c = omega (arith, there c.before.before, c.before.before.before.before.before.before.before.before.before.before.before.requires.0)
+mul-fill-rows-2 c = omega (arith, there c.before.before.before, c.before.before.before.before.before.before.before.before.before.before.before.before.requires.0)
 
 element-copy-out-fill-rows-2 : tie.Need-bounds-firsts-p-2
-element-copy-out-fill-rows-2 c = omega (arith, there c.before.before, c.before.before.before.before.before.before.before.before.before.before.before.requires.0)
+element-copy-out-fill-rows-2 c = omega (arith, there c.before.before.before, c.before.before.before.before.before.before.before.before.before.before.before.before.requires.0)
 
 fill-rows-requires : tie.Need-fill_rows-requires
 fill-rows-requires c κs =
-    let at-page-at = c.before.before.before.before in
+    let at-page-at = c.before.before.before.before.before in
     let at-if1 = at-page-at.before in
     let at-page-of = at-if1.before in
     let start = at-page-of.before.before.before.before.before.before.before.before in
     let a = start.args in
-    let q = page_rows (called start.requires.1) a.k (place at-page-of) at-if1.if1.false at-page-at.page-at.ensures in
-    (read_at start.requires.1 at-page-of.page-of.result (there at-if1) at-page-at.page-at.ensures, subst (λ (r : List Row). Room (rows_values r) a.text.now a.n) q start.requires.3, records_of _ _ a.i (length a.rows.now) q start.requires.4)
+    let q = page_rows (called start.requires.1) a.k (place at-page-of) at-if1.if-p-count.false at-page-at.page_at-page.ensures in
+    (read_at start.requires.1 at-page-of.page_of-p.result (there at-if1) at-page-at.page_at-page.ensures, subst (λ (r : List Row). Room (rows_values r) a.text.now a.n) q start.requires.3, records_of _ _ a.i (length a.rows.now) q start.requires.4)
 
 same_length : tie.Need-shape_of-rows
 same_length c = search rules
@@ -68,10 +68,10 @@ same-length-2 c = search rules
 
 returns-2 : tie.Need-returns
 returns-2 c =
-    let start = c.before.before.before.before.before.before.before.before.before.before.before.before.before.before.before.before.before.before.before in
+    let start = c.before.before.before.before.before.before.before.before.before.before.before.before.before.before.before.before.before.before.before.before in
     let a = start.args in
     let R = c.before.before.before.before in
-    let q = page_rows (called start.requires.1) a.k (place c.before.before.before.before.before.before.before.before.before.before.before) c.before.before.before.before.before.before.before.before.before.before.if1.false c.before.before.before.before.before.before.before.before.before.page-at.ensures in
+    let q = page_rows (called start.requires.1) a.k (place c.before.before.before.before.before.before.before.before.before.before.before.before) c.before.before.before.before.before.before.before.before.before.before.before.if-p-count.false c.before.before.before.before.before.before.before.before.before.before.page_at-page.ensures in
     subst (λ (r : List Row). Fills r a.text.now R.fill_rows.new.1.1.1.1.1.1.0 a.n R.fill_rows.result.end a.rows.now R.fill_rows.new.1.1.1.1.1.0 a.i R.fill_rows.result.row) (sym q) R.fill_rows.ensures
 
 pub fill_number_spec : {M : Type 1} → statement M

@@ -23,11 +23,11 @@ one c = omega (arith, c.requires.0)
 fits : (c : tie.After-page_at-first) → PageFits c.page_at-first.result.now
 fits c = page_fits {i = 0} (called c.before.before.before.before.before.before.requires.2) (one c.before.before.before.before.before.before) c.page_at-first.ensures
 
-count-is : (c : tie.After-count_said-of) → c.count_said-of.result ≡ count_said (sheets_of (pages_at c.before.before.before.before.before.before.before.before.before.before.args.buffer.now c.before.before.before.before.before.before.before.before.before.before.args.starts.now c.before.before.before.before.before.before.before.before.before.before.args.lens.now))
+count-is : (c : tie.After-count_said-of) → c.count_said-of.result ≡ count_said (sheets_of (pages_at c.before.before.before.before.before.before.before.before.before.before.before.args.buffer.now c.before.before.before.before.before.before.before.before.before.before.before.args.starts.now c.before.before.before.before.before.before.before.before.before.before.before.args.lens.now))
 count-is c =
-    let a = c.before.before.before.before.before.before.before.before.before.before.args in
-    let h = pages_count a.buffer.now a.starts.now a.lens.now c.before.before.before.before.before.before.before.before.before.before.requires.2.lie in
-    c.count_said-of.ensures ∙ (ap (λ (w : List ℕ). (content_of (tags_at w 0)).of) c.before.before.before.before.page-at.ensures ∙ count_first (pages_at a.buffer.now a.starts.now a.lens.now) (omega (arith, h, c.before.before.before.before.before.before.before.before.before.before.requires.0)))
+    let a = c.before.before.before.before.before.before.before.before.before.before.before.args in
+    let h = pages_count a.buffer.now a.starts.now a.lens.now c.before.before.before.before.before.before.before.before.before.before.before.requires.2.lie in
+    c.count_said-of.ensures ∙ (ap (λ (w : List ℕ). (content_of (tags_at w 0)).of) c.before.before.before.before.before.page_at-first.ensures ∙ count_first (pages_at a.buffer.now a.starts.now a.lens.now) (omega (arith, h, c.before.before.before.before.before.before.before.before.before.before.before.requires.0)))
 
 page-at-requires : tie.Need-page_at-first-requires
 page-at-requires c κs =
@@ -42,24 +42,24 @@ element-copy-out-find-head-2 c = search rules
 
 find-head-requires : tie.Need-find_head-h-requires
 find-head-requires c κs =
-    let start = c.before.before.before.before.before.before.before.before in
-    read_at start.requires.2 0 (one start) c.before.before.page-at.ensures
+    let start = c.before.before.before.before.before.before.before.before.before in
+    read_at start.requires.2 0 (one start) c.before.before.before.page_at-first.ensures
 
 count-said-requires : tie.Need-count_said-of-requires
-count-said-requires c κs = (c.find-Head.ensures.mp_at, (fits c.before.before.before).fit)
+count-said-requires c κs = (c.find-Head.ensures.mp_at, (fits c.before.before.before.before).fit)
 
 first-other-requires : tie.Need-first_other-other-requires
 first-other-requires c κs =
-    let start = c.before.before.before.before.before.before.before.before.before.before in
-    (start.requires.0, start.requires.1, start.requires.2, subst (λ (w : List ℕ). HeadAt w start.args.side.now start.args.tape.now c.before.find-Head.result) c.before.before.before.before.page-at.ensures c.before.find-Head.ensures)
+    let start = c.before.before.before.before.before.before.before.before.before.before.before in
+    (start.requires.0, start.requires.1, start.requires.2, subst (λ (w : List ℕ). HeadAt w start.args.side.now start.args.tape.now c.before.find-Head.result) c.before.before.before.before.before.page_at-first.ensures c.before.find-Head.ensures)
 
 numbers-requires : tie.Need-numbers-nos-requires
 numbers-requires c κs =
-    let start = c.before.before.before.before.before.before.before.before.before.before.before in
+    let start = c.before.before.before.before.before.before.before.before.before.before.before.before in
     (start.requires.1, start.requires.2)
 
 cast-t18 : tie.Need-overflow_cast-result
-cast-t18 c = omega (arith, c.before.before.count_said-of.ensures, (fits c.before.before.before.before.before.before).of_small)
+cast-t18 c = omega (arith, c.before.before.count_said-of.ensures, (fits c.before.before.before.before.before.before.before).of_small)
 
 returns : tie.Need-returns
 returns c = (c.before.first_other-other.ensures, count-is c.before.before, c.numbers-nos.ensures)

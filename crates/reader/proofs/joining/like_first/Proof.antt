@@ -27,7 +27,7 @@ mul-find-head c = search rules
 
 element-copy-out-find-head : tie.Need-bounds-firsts-i
 element-copy-out-find-head c =
-    let start = c.before.before.before.before.before.before.before in
+    let start = c.before.before.before.before.before.before.before.before in
     omega (arith, start.requires.0, start.requires.1.nine)
 
 add-find-head : tie.Need-overflow_add-i
@@ -38,20 +38,20 @@ mul-find-head-2 c = search rules
 
 element-copy-out-find-head-2 : tie.Need-bounds-firsts-i-2
 element-copy-out-find-head-2 c =
-    let start = c.before.before.before.before.before.before.before.before in
+    let start = c.before.before.before.before.before.before.before.before.before in
     omega (arith, start.requires.0, start.requires.1.nine)
 
 find-head-requires : tie.Need-find_head-k-requires
 find-head-requires c κs =
-    let start = c.before.before.before.before.before.before.before.before.before in
-    read_at start.requires.1 start.args.i start.requires.0 c.before.before.page-at2.ensures
+    let start = c.before.before.before.before.before.before.before.before.before.before in
+    read_at start.requires.1 start.args.i start.requires.0 c.before.before.before.page_at-two.ensures
 
 alike-requires : tie.Need-alike-requires
 alike-requires c κs =
-    let s = c.before.before.before.before.before.before.before.before.before.before in
+    let s = c.before.before.before.before.before.before.before.before.before.before.before in
     let T = called s.requires.1 in
-    let one = c.before.before.before.before.page-at.ensures in
-    let two = c.before.before.before.page-at2.ensures in (
+    let one = c.before.before.before.before.page_at-two.ensures in
+    let two = c.before.before.before.before.page_at-two.ensures in (
       subst (λ (w : List ℕ). HeadAt w s.args.side.now s.args.tape.now s.args.h) (sym one) s.requires.2,
       (page_fits {i = 0} T (omega (arith, s.requires.0)) one).fit,
       c.find-Head.ensures,
@@ -59,7 +59,7 @@ alike-requires c κs =
     )
 
 returns : tie.Need-returns
-returns c = let s = c.before.before.before.before.before.before.before.before.before.before.before.args in alike_first (pages_at s.buffer.now s.starts.now s.lens.now) s.i _ _ _ c.before.before.before.before.before.page-at.ensures c.before.before.before.before.page-at2.ensures c.alike.ensures
+returns c = let s = c.before.before.before.before.before.before.before.before.before.before.before.before.args in alike_first (pages_at s.buffer.now s.starts.now s.lens.now) s.i _ _ _ c.before.before.before.before.before.page_at-two.ensures c.before.before.before.before.before.page_at-two.ensures c.alike.ensures
 
 pub like_first_spec : {M : Type 1} → statement M
 like_first_spec =

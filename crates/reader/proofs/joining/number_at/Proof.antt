@@ -26,7 +26,7 @@ mul-find-head c = search rules
 
 element-copy-out-find-head : tie.Need-bounds-firsts-i
 element-copy-out-find-head c =
-    let start = c.before.before.before.before.before.before in
+    let start = c.before.before.before.before.before.before.before in
     omega (arith, start.requires.0, start.requires.1.nine)
 
 add-find-head : tie.Need-overflow_add-i
@@ -37,22 +37,22 @@ mul-find-head-2 c = search rules
 
 element-copy-out-find-head-2 : tie.Need-bounds-firsts-i-2
 element-copy-out-find-head-2 c =
-    let start = c.before.before.before.before.before.before.before in
+    let start = c.before.before.before.before.before.before.before.before in
     omega (arith, start.requires.0, start.requires.1.nine)
 
 find-head-requires : tie.Need-find_head-h-requires
 find-head-requires c κs =
-    let start = c.before.before.before.before.before.before.before.before in
-    read_at start.requires.1 start.args.i start.requires.0 c.before.before.page-at.ensures
+    let start = c.before.before.before.before.before.before.before.before.before in
+    read_at start.requires.1 start.args.i start.requires.0 c.before.before.before.page_at-page.ensures
 
 number-of-requires : tie.Need-number_of-no-requires
-number-of-requires c κs = (c.find-Head.ensures.mp_at, (fits c.before.before.before).fit)
+number-of-requires c κs = (c.find-Head.ensures.mp_at, (fits c.before.before.before.before).fit)
 
 cast-result : tie.Need-overflow_cast-result
-cast-result c = omega (arith, c.number_of_lem.ensures, (fits c.before.before.before.before).no_small)
+cast-result c = omega (arith, c.number_of_lem.ensures, (fits c.before.before.before.before.before).no_small)
 
 returns : tie.Need-returns
-returns c = c.number_of_lem.ensures ∙ ap (λ (w : List ℕ). (content_of (tags_at w 0)).no) c.before.before.before.before.page-at.ensures
+returns c = c.number_of_lem.ensures ∙ ap (λ (w : List ℕ). (content_of (tags_at w 0)).no) c.before.before.before.before.before.page_at-page.ensures
 
 pub number_at_spec : {M : Type 1} → statement M
 number_at_spec =

@@ -37,24 +37,24 @@ mul-count-rows : tie.Need-offset_bounds-firsts-i
 mul-count-rows c = omega (arith, there c.before, c.before.before.before.before.before.before.before.before.requires.0)
 
 element-copy-out-count-rows : tie.Need-bounds-firsts-i
-element-copy-out-count-rows c = omega (arith, there c.before, c.before.before.before.before.before.before.before.before.requires.0)
+element-copy-out-count-rows c = omega (arith, there c.before.before, c.before.before.before.before.before.before.before.before.before.requires.0)
 
 add-count-rows : tie.Need-overflow_add-i
-add-count-rows c = omega (arith, there c.before.before, c.before.before.before.before.before.before.before.before.before.requires.0)
+add-count-rows c = omega (arith, there c.before.before.before, c.before.before.before.before.before.before.before.before.before.before.requires.0)
 
 mul-count-rows-2 : tie.Need-offset_bounds-firsts-i-2
-mul-count-rows-2 c = omega (arith, there c.before.before, c.before.before.before.before.before.before.before.before.before.requires.0)
+mul-count-rows-2 c = omega (arith, there c.before.before.before, c.before.before.before.before.before.before.before.before.before.before.requires.0)
 
 element-copy-out-count-rows-2 : tie.Need-bounds-firsts-i-2
-element-copy-out-count-rows-2 c = omega (arith, there c.before.before, c.before.before.before.before.before.before.before.before.before.requires.0)
+element-copy-out-count-rows-2 c = omega (arith, there c.before.before.before, c.before.before.before.before.before.before.before.before.before.before.requires.0)
 
 count-rows-requires : tie.Need-count_rows-requires
-count-rows-requires c κs = read_at c.before.before.before.before.before.before.before.before.before.before.requires.1 c.before.before.before.before.page-of.result (there c.before.before.before) c.before.before.page-at.ensures
+count-rows-requires c κs = read_at c.before.before.before.before.before.before.before.before.before.before.before.requires.1 c.before.before.before.before.before.page_of-i.result (there c.before.before.before.before) c.before.before.before.page_at-page.ensures
 
 returns-2 : tie.Need-returns
 returns-2 c =
-    let start = c.before.before.before.before.before.before.before.before.before.before.before in
-    (c.count_rows.ensures.0 ∙ sym (ap (λ (l : List Row). length l) (page_rows (called start.requires.1) start.args.k (place c.before.before.before.before.before) c.before.before.before.before.if1.false c.before.before.before.page-at.ensures)), c.count_rows.ensures.1)
+    let start = c.before.before.before.before.before.before.before.before.before.before.before.before in
+    (c.count_rows.ensures.0 ∙ sym (ap (λ (l : List Row). length l) (page_rows (called start.requires.1) start.args.k (place c.before.before.before.before.before.before) c.before.before.before.before.before.if-i-n.false c.before.before.before.before.page_at-page.ensures)), c.count_rows.ensures.1)
 
 pub rows_of_spec : {M : Type 1} → statement M
 rows_of_spec =

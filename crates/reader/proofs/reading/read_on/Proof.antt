@@ -25,8 +25,8 @@ take-all-requires c κs =
 
 read-tapes-requires : tie.Need-read_tapes-requires
 read-tapes-requires c κs =
-    let start = c.before.before.before.before.before.before.before.before.before.before.before.before.before.before.before.before.before.before.before.before.before in
-    (start.requires.0, start.requires.1, c.before.before.before.before.before.before.before.before.before.before.before.take_all.ensures c.before.before.before.before.before.before.if1.true)
+    let start = c.before.before.before.before.before.before.before.before.before.before.before.before.before.before.before.before.before.before.before in
+    (start.requires.0, start.requires.1, c.before.before.before.before.before.before.before.before.before.take_all-taken.ensures c.before.before.before.before.if-taken.true)
 
 same_length : tie.Need-shape_of-tape-then-taken
 same_length c = search rules
@@ -91,14 +91,14 @@ lay-all-requires c κs =
 
 read-tapes-requires-2 : tie.Need-read_tapes-requires-2
 read-tapes-requires-2 c κs =
-    let start = c.before.before.before.before.before.before.before.before.before.before.before.before.before.before.before.before.before.before.before.before.before.before.before.before.before.before.before.before.before.before.before.before.before.before in
-    (start.requires.0, start.requires.1, c.before.before.before.before.before.before.before.before.before.lay-all.ensures)
+    let start = c.before.before.before.before.before.before.before.before.before.before.before.before.before.before.before.before.before.before.before.before.before.before.before.before.before.before.before.before.before.before.before.before in
+    (start.requires.0, start.requires.1, c.before.before.before.before.before.before.before.lay_all-firsts.ensures)
 
 same-length-7 : tie.Need-shape_of-tape
-same-length-7 c = c.before.before.before.before.before.before.before.before.before.before.before.before.before.before.lay-all.auto.1.1.1.0 ∙ (c.before.before.before.before.before.before.before.before.before.before.before.before.before.before.before.before.before.before.before.clear.auto.0 ∙ c.before.before.before.before.before.before.before.before.before.before.before.before.before.before.before.before.before.before.before.before.before.before.before.before.before.before.before.before.before.take_all.auto.1.1.1.0)
+same-length-7 c = c.before.before.before.before.before.before.before.before.before.before.before.before.lay_all-firsts.auto.1.1.1.0 ∙ (c.before.before.before.before.before.before.before.before.before.before.before.before.before.before.before.before.before.clear.auto.0 ∙ c.before.before.before.before.before.before.before.before.before.before.before.before.before.before.before.before.before.before.before.before.before.before.before.before.before.before.before.take_all-taken.auto.1.1.1.0)
 
 same-length-8 : tie.Need-shape_of-side
-same-length-8 c = c.before.before.before.before.before.before.before.before.before.before.before.before.before.before.lay-all.auto.1.1.1.1.0 ∙ c.before.before.before.before.before.before.before.before.before.before.before.before.before.before.before.before.before.before.before.before.before.before.before.before.before.before.before.before.before.take_all.auto.1.1.1.1.0
+same-length-8 c = c.before.before.before.before.before.before.before.before.before.before.before.before.lay_all-firsts.auto.1.1.1.1.0 ∙ c.before.before.before.before.before.before.before.before.before.before.before.before.before.before.before.before.before.before.before.before.before.before.before.before.before.before.before.take_all-taken.auto.1.1.1.1.0
 
 same-length-9 : tie.Need-shape_of-rows
 same-length-9 c = search rules

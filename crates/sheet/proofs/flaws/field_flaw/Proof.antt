@@ -16,17 +16,17 @@ settled-len-requires c κs = search rules
 
 value-flaw-requires : tie.Need-value_flaw-requires
 value-flaw-requires c κs =
-    let S = c.before.before.before.before.before.before.before.before.before in
-    (S.requires.3, S.requires.2, omega arith, omega (arith, c.before.before.before.settled-len.ensures.1, c.before.before.before.settled-len.auto.1.1.1.1.0))
+    let S = c.before.before.before.before.before.before.before.before in
+    (S.requires.3, S.requires.2, omega arith, omega (arith, c.before.before.settled_len-n.ensures.1, c.before.before.settled_len-n.auto.1.1.1.1.0))
 
 same_length : tie.Need-shape_of-scratch
 same_length c = search rules
 
 returns : tie.Need-returns
 returns c =
-    let N = c.before.before.before.before in
-    let S = c.before.before.before.before.before.before.before.before.before.before in
-    c.value_flaw.ensures ∙ ap (field_flaw (field_at S.args.id)) (settled_field _ _ _ S.args.id c.before.before.before.before.before.before.rule-in.ensures N.settled-len.ensures.0)
+    let N = c.before.before.before in
+    let S = c.before.before.before.before.before.before.before.before.before in
+    c.value_flaw.ensures ∙ ap (field_flaw (field_at S.args.id)) (settled_field _ _ _ S.args.id c.before.before.before.before.before.rule_in.ensures N.settled_len-n.ensures.0)
 
 pub field_flaw_spec : {M : Type 1} → statement M
 field_flaw_spec =

@@ -16,7 +16,7 @@ slice-reshare-prefix-is-zero : tie.Need-slice_bounds-is_zero-end
 slice-reshare-prefix-is-zero c = search rules
 
 slice-aggregate-is-zero : tie.Need-slice_bounds-is_zero-end-2
-slice-aggregate-is-zero c = let N = c.before.before.before.value_len in sym (length-take-le _ _ (omega (arith, N.ensures.1, N.auto.1.1.1.0)))
+slice-aggregate-is-zero c = let N = c.before.before.value_len-n in sym (length-take-le _ _ (omega (arith, N.ensures.1, N.auto.1.1.1.0)))
 
 is-zero-requires : tie.Need-is_zero-requires
 is-zero-requires c κs = search rules
@@ -26,18 +26,18 @@ same_length c = search rules
 
 returns : tie.Need-returns-then-is_zero
 returns c =
-    let Z = c.before in
-    let n = Z.before.before.before.before.value_len.ensures in
-    (settled_zero (rule_at Z.before.before.before.before.before.before.before.before.before.args.rule) _ _ _ n.0 Z.is_zero.ensures c.if-is_zero.true, omega arith)
+    let Z = c in
+    let n = Z.before.before.before.before.value_len-n.ensures in
+    (settled_zero (rule_at Z.before.before.before.before.before.before.before.before.before.args.rule) _ _ _ n.0 Z.before.is_zero.ensures c.if-is_zero.true, omega arith)
 
 same-length-2 : tie.Need-shape_of-scratch
 same-length-2 c = search rules
 
 returns-2 : tie.Need-returns
 returns-2 c =
-    let Z = c.before in
-    let n = Z.before.before.before.before.value_len.ensures in
-    (settled_whole (rule_at Z.before.before.before.before.before.before.before.before.before.args.rule) _ _ _ n.0 Z.is_zero.ensures c.if-is_zero.false, n.1)
+    let Z = c in
+    let n = Z.before.before.before.before.value_len-n.ensures in
+    (settled_whole (rule_at Z.before.before.before.before.before.before.before.before.before.args.rule) _ _ _ n.0 Z.before.is_zero.ensures c.if-is_zero.false, n.1)
 
 pub settled_len_spec : {M : Type 1} → statement M
 settled_len_spec =

@@ -66,10 +66,10 @@ module _ (c : tie.In-End-2 invariant-loop decreases-loop) where
   ended_by = c.before.before
 
   abbrev end-at : ℕ
-  end-at = c.mark.given.0.0
+  end-at = c.before.before.before.mark-in-Start-1.given.0.0
 
-  end-order : Outer ended_by.before.loop-i.at (length (page_at ended_by.before)) (End end-at)
-  end-order = order ended_by (End end-at) c.mark.given.1
+  end-order : Outer ended_by.before.loop.at (length (page_at ended_by.before)) (End end-at)
+  end-order = order ended_by (End end-at) c.before.before.before.mark-in-Start-1.given.1
 
 -- a start tag: where it stands, where its name ends
 module _ (c : tie.In-Start-2 invariant-loop decreases-loop) where
@@ -77,13 +77,13 @@ module _ (c : tie.In-Start-2 invariant-loop decreases-loop) where
   started-by = c.before.before
 
   abbrev start-at : ℕ
-  start-at = c.mark2.given.0.0
+  start-at = c.before.before.before.mark-in-Start-1.given.0.0
 
   abbrev name-end : ℕ
-  name-end = c.mark2.given.0.1.0
+  name-end = c.before.before.before.mark-in-Start-1.given.0.1.0
 
-  start-order : Outer started-by.before.loop-i.at (length (page_at started-by.before)) (Start start-at name-end)
-  start-order = order started-by (Start start-at name-end) c.mark2.given.1
+  start-order : Outer started-by.before.loop.at (length (page_at started-by.before)) (Start start-at name-end)
+  start-order = order started-by (Start start-at name-end) c.before.before.before.mark-in-Start-1.given.1
 
 -- a start tag once its element is known: what stands in it, and the state behind it
 module _ (c : tie.After-kind_under-kind invariant-loop decreases-loop) where

@@ -10,7 +10,7 @@ lower-of-requires c κs = search rules
 
 returns : tie.Need-returns-then-st
 unfolding closed
-returns c = rw c.before.if1.true c.lower_of.ensures
+returns c = rw c.before.before.if-st.true c.lower_of.ensures
 
 returns-2 : tie.Need-returns
 unfolding closed

@@ -34,7 +34,7 @@ lower-of-requires c κs = search rules
 returns : tie.Need-returns
 unfolding opened
 returns c =
-    let B = c.before in
+    let B = c.before.before in
     let F = B.before in
     let W = F.before in
     let A = W.before in
@@ -42,8 +42,8 @@ returns c =
     let R = P.before in
     let S = R.before in (
       λ l e f.
-          rw (code_back S.args.kind S.requires.0, ← e, ← f, ← R.rank-with.ensures, ← P.came.ensures, ← A.came2.ensures, ← W.ws-with.ensures.0, ← F.place-with.ensures, ← B.place-with2.ensures, ← c.lower_of-best.ensures),
-      record { known = S.requires.0; few = W.ws-with.ensures.1 },
+          rw (code_back S.args.kind S.requires.0, ← e, ← f, ← R.rank_with-rank.ensures, ← P.came-person.ensures, ← A.came-author.ensures, ← W.ws_with-ws.ensures.0, ← F.place_with-from.ensures, ← B.place_with-root.ensures, ← c.lower_of-best.ensures),
+      record { known = S.requires.0; few = W.ws_with-ws.ensures.1 },
     )
 
 pub open_spec : {M : Type 1} → statement M

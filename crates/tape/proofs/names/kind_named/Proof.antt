@@ -61,11 +61,11 @@ returns-2 c = (rw (sym c.before.spells.ensures ∙ c.if-spells.true), omega arit
 returns-3 : tie.Need-returns
 unfolding kind_named
 returns-3 c =
-    let B = c.before.before.before in
+    let B = c.before.before.before.before in
     let S = B.before.before in
     let a = S.args in
     let l = length-slice a.from a.to a.page.now S.requires.1 in
-    (rw (sym c.before.spells.ensures ∙ c.if-spells.false) (sym (ap code (unlettered (slice a.from a.to a.page.now) (λ e. B.if1.false (sym l ∙ e)) (drop 2 kinds) refl))), omega arith)
+    (rw (sym c.before.spells.ensures ∙ c.if-spells.false) (sym (ap code (unlettered (slice a.from a.to a.page.now) (λ e. B.if-to-from-eq1.false (sym l ∙ e)) (drop 2 kinds) refl))), omega arith)
 
 pub kind_named_spec : {M : Type 1} → statement M
 kind_named_spec =

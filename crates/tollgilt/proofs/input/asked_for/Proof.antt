@@ -27,7 +27,7 @@ returns-3 c =
     too_many N.before.before.args.input.now N.next_page-end.result N.next_page-end.ensures.0 N.next_page-end.ensures.1 c.if-end-gt8.true
 
 slice-aggregate-all-in : tie.Need-slice_bounds-all_in-end
-slice-aggregate-all-in c = let N = c.before.before.before.before in sym (length-take-le _ _ N.next-page.ensures.1)
+slice-aggregate-all-in c = let N = c.before.before.before in sym (length-take-le _ _ N.next_page-end.ensures.1)
 
 all-in-requires : tie.Need-all_in-requires
 all-in-requires c κs = search rules
@@ -35,8 +35,8 @@ all-in-requires c κs = search rules
 returns-4 : tie.Need-returns-then-not-all_in
 returns-4 c =
     let A = c.before in
-    let N = A.before.before.before.before.before in
-    no_digits N.before.before.args.input.now N.next-page.result N.next-page.ensures.0 N.next-page.ensures.1 (sym A.all_in.ensures ∙ not-true _ c.if-not-all_in.true)
+    let N = A.before.before.before.before in
+    no_digits N.before.before.args.input.now N.next_page-end.result N.next_page-end.ensures.0 N.next_page-end.ensures.1 (sym A.all_in.ensures ∙ not-true _ c.if-not-all_in.true)
 
 shown-requires : tie.Need-shown-requires
 shown-requires c κs = search rules
@@ -48,9 +48,9 @@ returns-5 : tie.Need-returns
 returns-5 c =
     let D = c.before in
     let A = D.before in
-    let F = A.before.before in
+    let F = A.before in
     let N = F.before.before.before in
-    a_number N.before.before.args.input.now N.next-page.result N.next-page.ensures.0 N.next-page.ensures.1 F.before.before.if1.false F.before.if2.false F.if3.false
+    a_number N.before.before.args.input.now N.next_page-end.result N.next_page-end.ensures.0 N.next_page-end.ensures.1 F.before.before.if-end-input.false F.before.if-end-lt1.false F.if-end-gt8.false
     (sym A.all_in.ensures ∙ not-false _ D.if-not-all_in.false) c.shown.result c.shown.ensures
 
 pub asked_for_spec : {M : Type 1} → statement M

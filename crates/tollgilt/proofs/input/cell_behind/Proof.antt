@@ -47,7 +47,7 @@ returns-2 c =
     bytes_as (too_long a.row a.field a.which a.input.now N.next_page-end.result N.next_page-end.ensures.0 N.next_page-end.ensures.1 T.before.if-end-input.false T.if-end-gt-CATALOGUE.true) a.out.now _ _ R.list_refusal-then-end-gt-CATALOGUE.ensures
 
 slice-aggregate-printed-cell : tie.Need-slice_bounds-printed_cell-end
-slice-aggregate-printed-cell c = sym (length-take-le _ _ c.before.before.before.next-page.ensures.1)
+slice-aggregate-printed-cell c = sym (length-take-le _ _ c.before.before.next_page-end.ensures.1)
 
 add-printed-cell : tie.Need-overflow_add-end
 add-printed-cell c = search rules
@@ -63,8 +63,8 @@ part-printed-cell-end c = search rules
 
 printed-cell-requires : tie.Need-printed_cell-requires
 printed-cell-requires c κs =
-    let E = c.before.before.before in
-    (omega (arith, length-take E.before.before.next-page.result (start E.before.before).args.input.now, E.if2.false), (start E.before.before).requires)
+    let E = c.before.before in
+    (omega (arith, length-take E.before.before.next_page-end.result (start E.before.before).args.input.now, E.if-end-gt-CATALOGUE.false), (start E.before.before).requires)
 
 same-length-3 : tie.Need-shape_of-out
 same-length-3 c = search rules
@@ -72,10 +72,10 @@ same-length-3 c = search rules
 returns-3 : tie.Need-returns
 returns-3 c =
     let P = c.before.before in
-    let E = P.before.before.before.before in
+    let E = P.before.before.before in
     let N = E.before.before in
     let a = (start N).args in
-    bytes_as (a_catalogue a.row a.field a.which a.input.now N.next-page.result N.next-page.ensures.0 N.next-page.ensures.1 E.before.if1.false E.if2.false) a.out.now _ _ P.printed_cell.ensures
+    bytes_as (a_catalogue a.row a.field a.which a.input.now N.next_page-end.result N.next_page-end.ensures.0 N.next_page-end.ensures.1 E.before.if-end-input.false E.if-end-gt-CATALOGUE.false) a.out.now _ _ P.printed_cell.ensures
 
 pub cell_behind_spec : {M : Type 1} → statement M
 cell_behind_spec =

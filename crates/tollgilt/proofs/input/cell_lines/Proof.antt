@@ -18,7 +18,7 @@ abbrev start : tie.After-flag_number-zero → tie.Start
 start F = F.before.before.before.before
 
 abbrev at_five : tie.After-flag_number-zero → List Line
-at_five F = let s = (start F).args.shown in five_lines s.source F.before.flag_number-more.result s.omitted F.flag-number2.result (take s.length (start F).args.room.now)
+at_five F = let s = (start F).args.shown in five_lines s.source F.before.flag-number.result s.omitted F.flag-number2.result (take s.length (start F).args.room.now)
 
 -- they are those that are to be written, and fit
 five-are : (F : tie.After-flag_number-zero) → let s = (start F).args.shown in shown_lines s.source s.more s.omitted s.zero (take s.length (start F).args.room.now) ≡ print (at_five F)
@@ -32,7 +32,7 @@ abbrev at_source : tie.After-flag_number-zero → Line
 at_source F = line (bytes "source") (numeral (start F).args.shown.source)
 
 abbrev cut_at : tie.After-flag_number-zero → Line
-cut_at F = line (bytes "cut") (numeral F.before.flag_number-more.result)
+cut_at F = line (bytes "cut") (numeral F.before.flag-number.result)
 
 abbrev left_at : tie.After-flag_number-zero → Line
 left_at F = line (bytes "left") (numeral (start F).args.shown.omitted)
@@ -79,16 +79,16 @@ cast-left : tie.Need-overflow_cast-left
 cast-left c = search rules
 
 count-line-requires : tie.Need-count_line-a-requires
-count-line-requires c κs = let F = c.before.before.before in next_fits (at_source F) (drop 1 (at_five F)) (begun F)
+count-line-requires c κs = let F = c.before.before.before in next_fits (at_source F) (drop 1 (at_five F)) (begun F.before)
 
 count-line-requires-2 : tie.Need-count_line-b-requires
-count-line-requires-2 c κs = let C = c.before.before.before.before in next_fits (cut_at (first C)) (drop 2 (at_five (first C))) (going-1 C)
+count-line-requires-2 c κs = let C = c.before.before.before.before in next_fits (cut_at (first C)) (drop 2 (at_five (first C))) (going-1 C.before)
 
 count-line-requires-3 : tie.Need-count_line-c-requires
-count-line-requires-3 c κs = let C = c.before.before.before.before in let F = first (second C) in next_fits (left_at F) (drop 3 (at_five F)) (going-2 C)
+count-line-requires-3 c κs = let C = c.before.before.before.before in let F = first (second C) in next_fits (left_at F) (drop 3 (at_five F)) (going-2 C.before)
 
 count-line-requires-4 : tie.Need-count_line-d-requires
-count-line-requires-4 c κs = let C = c.before.before.before.before in let F = first (second (third C)) in next_fits (at_zero F) (drop 4 (at_five F)) (going-3 C)
+count-line-requires-4 c κs = let C = c.before.before.before.before in let F = first (second (third C)) in next_fits (at_zero F) (drop 4 (at_five F)) (going-3 C.before)
 
 slice-aggregate-text-line : tie.Need-slice_bounds-text_line-end-2
 slice-aggregate-text-line c = search rules

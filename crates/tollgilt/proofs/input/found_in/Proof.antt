@@ -30,7 +30,7 @@ module _ (c : tie.Then-refusal-eq0) where
   listed : (found.find-pages.result.rows ≤ length found.find-pages.last.1.1.1.1.0) × (held_lines (take found.find-pages.result.rows found.find-pages.last.1.1.1.1.0) ≡ found_in (start found).args.number (start found).args.input.now)
   listed =
       rows_listed (start found).args.number (start found).args.input.now _ _ _ found.find-pages.result _ all-rows (split found).split.ensures.2 found.find-pages.ensures
-      (sym c.before.refusal-number.ensures ∙ c.if1.true)
+      (sym c.before.before.before.refusal_number-refusal.ensures ∙ c.before.before.if-refusal-eq0.true)
 
 -- pages that are refused
 module _ (c : tie.After-refusal_place) where

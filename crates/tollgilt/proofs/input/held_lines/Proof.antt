@@ -29,7 +29,7 @@ fit S = all_fit S.args.list.now S.args.count S.requires.0 S.args.out.now S.requi
 
 -- those of the rows behind the count's
 rows_fit : (c : tie.After-count_line-a invariant-loop decreases-loop) → Fits c.count_line-a.new.0 c.count_line-a.result (rows_of c.before.before.before.before.before)
-rows_fit c = let S = c.before.before.before.before.before in second_fits (rows_of S) (fit S) c.count_line-a.ensures
+rows_fit c = let S = c.before.before.before.before.before in second_fits (rows_of S) (fit S.before) c.count_line-a.ensures
 
 -- where the count was written, and where the call began
 abbrev counting : tie.At-loop-i invariant-loop decreases-loop → tie.After-count_line-a invariant-loop decreases-loop
@@ -40,7 +40,7 @@ start L = (counting L).before.before.before.before.before
 
 count-line-requires : tie.Need-count_line-a-requires invariant-loop decreases-loop
 count-line-requires c κs =
-    let S = c.before.before.before.before in
+    let S = c.before.before.before.before.before in
     (first_fits (print (line (bytes "held") (numeral S.args.count) ∷ [])) (rows_of S) (fit S)).inside
 
 loop-holds : tie.Need-loop-i-init invariant-loop decreases-loop

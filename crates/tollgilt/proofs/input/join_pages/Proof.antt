@@ -35,14 +35,14 @@ cast-at c = search rules
 slice-aggregate-lay : tie.Need-slice_bounds-lay-end invariant-loop decreases-loop
 slice-aggregate-lay c =
     let K = c.before.before.before in
-    let S = K.before.before.before in
+    let S = K.before.before in
     let (s, _, f, g) = S.requires in
     sym (length-take-le _ _ (first_inside S.args.room.now S.args.fresh.lens S.args.fresh.pages S.args.out.now s (few K) f g))
 
 lay-requires : tie.Need-lay-n-requires invariant-loop decreases-loop
 lay-requires c κs =
     let K = c.before.before.before in
-    let S = K.before.before.before in
+    let S = K.before.before in
     let (s, _, f, g) = S.requires in
     first_fits S.args.room.now S.args.fresh.lens S.args.fresh.pages S.args.out.now s (few K) f g
 
@@ -50,7 +50,7 @@ loop-holds : tie.Need-loop-k-init invariant-loop decreases-loop
 loop-holds c =
     let L = c.before.before in
     let K = L.before.before.before.before in
-    let S = K.before.before.before in
+    let S = K.before.before in
     let (s, _, f, g) = S.requires in
     join_first S.args.room.now S.args.fresh.lens S.args.fresh.pages S.args.out.now s (few K) f g _ _ L.lay-n.ensures
 
@@ -58,7 +58,7 @@ mul-end : tie.Need-offset_bounds-lens-k invariant-loop decreases-loop
 mul-end c = search rules
 
 array-read-end : tie.Need-bounds-lens-k invariant-loop decreases-loop
-array-read-end c = let L = c.before in omega (arith, L.before.before.before.before.before.before.before.before.before.before.requires.1, c.loop-k-test.true)
+array-read-end c = let L = c in omega (arith, L.before.before.before.before.before.before.before.before.before.before.requires.1, c.loop-k-test.true)
 
 cast-end : tie.Need-overflow_cast-end invariant-loop decreases-loop
 cast-end c = search rules
@@ -107,7 +107,7 @@ returns c =
     let A = c.before in
     let L = A.before.before.before in
     let K = L.before.before.before.before in
-    let S = K.before.before.before in
+    let S = K.before.before in
     let (s, _, f, g) = S.requires in
     join_done S.args.room.now S.args.fresh.lens S.args.fresh.pages S.args.out.now s (few K) f g _ _ L.lay-n.ensures _ _ _ _ A.loop-k.invariant c.loop-k-test.false
 

@@ -37,7 +37,7 @@ counted-requires : tie.Need-counted-n-requires
 counted-requires c κs = search rules
 
 slice-aggregate-split-pages : tie.Need-slice_bounds-split_pages-end
-slice-aggregate-split-pages c = sym (length-take-le _ _ c.before.counted.ensures.0)
+slice-aggregate-split-pages c = sym (length-take-le _ _ c.counted-n.ensures.0)
 
 slice-aggregate-split-pages-2 : tie.Need-slice_bounds-split_pages-end-2
 slice-aggregate-split-pages-2 c = search rules

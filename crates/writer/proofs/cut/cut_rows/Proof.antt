@@ -19,20 +19,20 @@ decreases-loop base n measures ends₀ full₀ used₀ i₀ ends full used i = n
 -- ---- what is known in the loop
 
 -- there are numbers for all rows
-long : (I : tie.In-loop-i invariant-loop decreases-loop) → let S = I.before.before.before in S.args.n ≤ length S.args.t2
-long I = let S = I.before.before.before in let l : length S.args.t2 ≡ 256 = search rules in omega (arith, l, S.requires.1)
+long : (I : tie.In-loop-i invariant-loop decreases-loop) → let S = I.before.before.before in S.args.n ≤ length S.args.measures
+long I = let S = I.before.before.before in let l : length S.args.measures ≡ 256 = search rules in omega (arith, l, S.requires.1)
 
 -- the page with the row on it
-more-is : (O : tie.After-opened invariant-loop decreases-loop) → let L = O.before.before.before in L.loop-i.used + O.before.size_in-size.result ≡ L.loop-i.used + size_in (get_or L.before.before.args.t2 L.loop-i.i 0)
+more-is : (O : tie.After-opened invariant-loop decreases-loop) → let L = O.before.before.before in L.loop-i.used + O.before.size_in-size.result ≡ L.loop-i.used + size_in (get_or L.before.before.args.measures L.loop-i.i 0)
 more-is O = let u = O.before.before.before.loop-i.used in ap (λ (n : ℕ). u + n) O.before.size_in-size.ensures.0
 
 -- a page that the row opens
-first-is : (O : tie.After-opened invariant-loop decreases-loop) → let L = O.before.before.before in let m = get_or L.before.before.args.t2 L.loop-i.i 0 in
+first-is : (O : tie.After-opened invariant-loop decreases-loop) → let L = O.before.before.before in let m = get_or L.before.before.args.measures L.loop-i.i 0 in
     O.opened.result + O.before.size_in-size.result ≡ opens L.before.before.args.base m + size_in m
 first-is O = rw (O.opened.ensures.0, O.before.size_in-size.ensures.0)
 
 -- the row does not fit on the page
-over : (E : tie.Else-more-le-PAGE invariant-loop decreases-loop) → let L = E.before.before.before.before in 1400 < L.loop-i.used + size_in (get_or L.before.before.args.t2 L.loop-i.i 0)
+over : (E : tie.Else-more-le-PAGE invariant-loop decreases-loop) → let L = E.before.before.before.before in 1400 < L.loop-i.used + size_in (get_or L.before.before.args.measures L.loop-i.i 0)
 over E = omega (arith, E.if-more-le-PAGE.false, more-is E.before)
 
 -- ---- the needs
@@ -44,7 +44,7 @@ opened-requires : tie.Need-opened-used-requires invariant-loop decreases-loop
 opened-requires c κs = search rules
 
 loop-holds : tie.Need-loop-i-init invariant-loop decreases-loop
-loop-holds c = let S = c.before in held_start S.args.base S.args.t2 S.args.n c.opened-used.result c.opened-used.ensures.0 c.opened-used.ensures.1
+loop-holds c = let S = c.before in held_start S.args.base S.args.measures S.args.n c.opened-used.result c.opened-used.ensures.0 c.opened-used.ensures.1
 
 mul-size-in : tie.Need-offset_bounds-measures-i invariant-loop decreases-loop
 mul-size-in c = search rules
@@ -133,7 +133,7 @@ returns-3 : tie.Need-returns invariant-loop decreases-loop
 returns-3 c =
     let L = c.before in
     let S = L.before.before in
-    let l : length S.args.t2 ≡ 256 = search rules in
+    let l : length S.args.measures ≡ 256 = search rules in
     held_done _ L.loop-i.invariant (omega (arith, l, S.requires.1)) c.loop-i-test.false refl refl refl
 
 pub cut_rows_spec : {M : Type 1} → statement M

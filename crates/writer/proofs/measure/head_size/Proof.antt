@@ -60,11 +60,11 @@ slice-aggregate-lay-page-2 c = sym (length-take-le _ _ (omega (arith, people-wit
 
 lay-page-requires : tie.Need-lay_page-requires
 lay-page-requires c κs =
-    let P = c.before.before.before.before.before in
+    let P = c.before.before.before.before.before.before in
     let K = P.before.before.before in
     let S = K.before.before.before in
     let h = show_head S.args.text.now S.args.plan in
-    (K.keys.ensures, S.requires.0, omega arith, omega arith, written_first P.lay-people.ensures, tt, omega (arith, ap length (alone h), page_short h (sound S), S.requires.1))
+    (K.keys-keys.ensures, S.requires.0, omega arith, omega arith, written_first P.lay_people-p.ensures, tt, omega (arith, ap length (alone h), page_short h (sound S), S.requires.1))
 
 same_length : tie.Need-shape_of-scratch
 same_length c = search rules
@@ -72,7 +72,7 @@ same_length c = search rules
 returns : tie.Need-returns
 returns c =
     let L = c.before.before in
-    let S = L.before.before.before.before.before.before.before.before.before.before.before.before in
+    let S = L.before.before.before.before.before.before.before.before.before.before.before.before.before in
     omega (arith, L.lay_page.ensures.behind, ap length (alone (show_head S.args.text.now S.args.plan)))
 
 pub head_size_spec : {M : Type 1} → statement M

@@ -43,8 +43,8 @@ three-in : (c : tie.After-lay_substance-c) → let S = c.before.before.before.be
 three-in c = let S = c.before.before.before.before.before.before.before.before.before.before.before.before.before.before.before.before in going_on (two_in c.before.before.before.before) (sub S 8) (bytes "</M>") refl c.lay_substance-c.ensures
 
 -- all is written
-all_in : (c : tie.After-lay-2) → let S = c.before.before.before.before.before.before.before.before.before.before.before.before.before.before.before.before.before.before.before.before.before in Wrote S.args.out.now c.lay-2.new.0 S.args.at c.lay-2.result (whole S)
-all_in c = last_on (three-in c.before.before.before.before.before) (fit c.before.before.before.before.before.before.before.before.before.before.before.before.before.before.before) (wrote c.lay-2.ensures)
+all_in : (c : tie.After-lay-2) → let S = c.before.before.before.before.before.before.before.before.before.before.before.before.before.before.before.before.before.before.before.before.before.before in Wrote S.args.out.now c.lay-2.new.0 S.args.at c.lay-2.result (whole S)
+all_in c = last_on (three-in c.before.before.before.before.before.before) (fit c.before.before.before.before.before.before.before.before.before.before.before.before.before.before.before.before) (wrote c.lay-2.ensures)
 
 -- without a W the two bytes fit
 short : (E : tie.Then-rows-from-eq0) → let S = E.before.before.before.before.before.before in Fits S.args.out.now S.args.at (bytes "/>")
@@ -60,7 +60,7 @@ shared-slice-read-if1 : tie.Need-bounds-rows-from
 shared-slice-read-if1 c = search rules
 
 lay-requires : tie.Need-lay-requires
-lay-requires c κs = (short c.before.before).inside
+lay-requires c κs = (short c.before.before.before).inside
 
 same_length : tie.Need-shape_of-out-then-rows-from-eq0
 same_length c = search rules
@@ -68,9 +68,9 @@ same_length c = search rules
 returns : tie.Need-returns-then-rows-from-eq0
 returns c =
     let L = c.before.before in
-    let E = L.before.before.before in
+    let E = L.before.before.before.before in
     let a = E.before.before.before.before.before.before.args in
-    wrote_as (end_none a.text.now a.from a.rows.now E.if1.true) (wrote L.lay.ensures)
+    wrote_as (end_none a.text.now a.from a.rows.now E.if-rows-from-eq0.true) (wrote L.lay.ensures)
 
 slice-write-out : tie.Need-bounds-out-at
 slice-write-out c = byte_fits (going_start (fit c))
@@ -106,17 +106,17 @@ lay-substance-requires-3 c κs =
     (S.requires.0, omega (arith, S.requires.1), (three_parts a.text.now a.rows.now a.from S.requires.2).1.1, going_fits (two_in P) (sub S 8) (bytes "</M>") refl)
 
 lay-requires-2 : tie.Need-lay-requires-2
-lay-requires-2 c κs = last_fits (three-in c.before.before.before.before)
+lay-requires-2 c κs = last_fits (three-in c.before.before.before.before.before)
 
 same-length-2 : tie.Need-shape_of-out
-same-length-2 c = let L = c.before.before in room_kept (fit L.before.before.before.before.before.before.before.before.before.before.before.before.before.before.before) (all_in L)
+same-length-2 c = let L = c.before.before in room_kept (fit L.before.before.before.before.before.before.before.before.before.before.before.before.before.before.before.before) (all_in L)
 
 returns-2 : tie.Need-returns
 returns-2 c =
     let L = c.before.before in
-    let E = L.before.before.before.before.before.before.before.before.before.before.before.before.before.before.before in
+    let E = L.before.before.before.before.before.before.before.before.before.before.before.before.before.before.before.before in
     let a = E.before.before.before.before.before.before.args in
-    wrote_as (end_some a.text.now a.from a.rows.now E.if1.false) (all_in L)
+    wrote_as (end_some a.text.now a.from a.rows.now E.if-rows-from-eq0.false) (all_in L)
 
 pub lay_end_spec : {M : Type 1} → statement M
 lay_end_spec =

@@ -22,13 +22,13 @@ opens : (c : tie.Else-heading-2) → let a = c.before.before.before.args in gap_
 opens c = rw (c.before.if-inside.false, c.if-heading-2.false)
 
 lay-requires : tie.Need-lay-requires
-lay-requires c κs = rw (closes c.before.before) at c.before.before.before.before.before.requires
+lay-requires c κs = rw (closes c.before.before.before) at c.before.before.before.before.before.before.requires
 
 same_length : tie.Need-shape_of-out-then-heading
 same_length c = search rules
 
 returns : tie.Need-returns-then-heading
-returns c = let L = c.before.before in wrote_as (closes L.before.before.before) (wrote L.lay.ensures)
+returns c = let L = c.before.before in wrote_as (closes L.before.before.before.before) (wrote L.lay.ensures)
 
 returns-2 : tie.Need-returns-then-inside
 returns-2 c = let a = c.before.before.before.args in wrote_as (stays c) (none_written a.out.now a.at)
@@ -37,13 +37,13 @@ returns-3 : tie.Need-returns-then-heading-2
 returns-3 c = let a = c.before.before.before.args in wrote_as (follows c) (none_written a.out.now a.at)
 
 lay-requires-2 : tie.Need-lay-requires-2
-lay-requires-2 c κs = rw (opens c.before.before) at c.before.before.before.before.before.requires
+lay-requires-2 c κs = rw (opens c.before.before.before) at c.before.before.before.before.before.before.requires
 
 same-length-2 : tie.Need-shape_of-out
 same-length-2 c = search rules
 
 returns-4 : tie.Need-returns
-returns-4 c = let L = c.before.before in wrote_as (opens L.before.before.before) (wrote L.lay-2.ensures)
+returns-4 c = let L = c.before.before in wrote_as (opens L.before.before.before.before) (wrote L.lay-2.ensures)
 
 pub lay_gap_spec : {M : Type 1} → statement M
 lay_gap_spec =

@@ -65,7 +65,7 @@ enum_told : tie.Need-enum_told-1
 enum_told c = search rules
 
 lay-tag-requires : tie.Need-lay_tag-requires
-lay-tag-requires c κs = let E = c.before.before.before in let S = E.before.before.before.before.before.before in let a = S.args in (S.requires.0, search rules, omega (arith, S.requires.1), spans_inside a.text.now a.rows.now a.i 2 0 (omega arith) (inside S), (fit-1 E).inside)
+lay-tag-requires c κs = let E = c.before.before.before in let S = E.before.before.before.before.before.before.before.before in let a = S.args in (S.requires.0, search rules, omega (arith, S.requires.1), spans_inside a.text.now a.rows.now a.i 2 0 (omega arith) (inside S), (fit-1 E.before.before).inside)
 
 enum-told-2 : tie.Need-enum_told-in-Medication
 enum-told-2 c = search rules
@@ -77,13 +77,13 @@ enum-told-3 : tie.Need-enum_told-in-Recipe
 enum-told-3 c = search rules
 
 lay-tag-requires-2 : tie.Need-lay_tag-requires-in-Recipe
-lay-tag-requires-2 c κs = let E = c.before.before.before in let S = E.before.before.before.before.before.before in let a = S.args in (S.requires.0, search rules, omega (arith, S.requires.1), spans_inside a.text.now a.rows.now a.i 2 0 (omega arith) (inside S), (fit-3 E).inside)
+lay-tag-requires-2 c κs = let E = c.before.before.before in let S = E.before.before.before.before.before.before.before.before in let a = S.args in (S.requires.0, search rules, omega (arith, S.requires.1), spans_inside a.text.now a.rows.now a.i 2 0 (omega arith) (inside S), (fit-3 E.before.before).inside)
 
 enum-told-4 : tie.Need-enum_told-in-Note
 enum-told-4 c = search rules
 
 lay-tag-requires-3 : tie.Need-lay_tag-requires-in-Note
-lay-tag-requires-3 c κs = let E = c.before.before.before in let S = E.before.before.before.before.before.before in let a = S.args in (S.requires.0, search rules, omega (arith, S.requires.1), spans_inside a.text.now a.rows.now a.i 1 0 (omega arith) (inside S), (fit-4 E).inside)
+lay-tag-requires-3 c κs = let E = c.before.before.before in let S = E.before.before.before.before.before.before.before.before in let a = S.args in (S.requires.0, search rules, omega (arith, S.requires.1), spans_inside a.text.now a.rows.now a.i 1 0 (omega arith) (inside S), (fit-4 E.before.before).inside)
 
 enum-told-5 : tie.Need-enum_told-in-Unknown
 enum-told-5 c = search rules
@@ -92,7 +92,7 @@ same_length : tie.Need-shape_of-out-in-Heading
 same_length c = search rules
 
 returns : tie.Need-returns-in-Heading
-returns c = let T = c.before.before in wrote_as (row-1 T.before.before.before.before) T.lay_tag.ensures
+returns c = let T = c.before.before in wrote_as (row-1 T.before.before.before.before.before.before) T.lay_tag.ensures
 
 same-length-2 : tie.Need-shape_of-out-in-Medication
 same-length-2 c = search rules
@@ -104,13 +104,13 @@ same-length-3 : tie.Need-shape_of-out-in-Recipe
 same-length-3 c = search rules
 
 returns-3 : tie.Need-returns-in-Recipe
-returns-3 c = let T = c.before.before in wrote_as (row-3 T.before.before.before.before) T.lay_tag-in-Recipe.ensures
+returns-3 c = let T = c.before.before in wrote_as (row-3 T.before.before.before.before.before.before) T.lay_tag-in-Recipe.ensures
 
 same-length-4 : tie.Need-shape_of-out-in-Note
 same-length-4 c = search rules
 
 returns-4 : tie.Need-returns-in-Note
-returns-4 c = let T = c.before.before in wrote_as (row-4 T.before.before.before.before) T.lay_tag-in-Note.ensures
+returns-4 c = let T = c.before.before in wrote_as (row-4 T.before.before.before.before.before.before) T.lay_tag-in-Note.ensures
 
 returns-5 : tie.Need-returns-in-Unknown
 returns-5 c =

@@ -28,13 +28,13 @@ returns c =
     wrote_as (measures_by a.text.now a.numbers.now (sym N.all_absent.ensures ∙ c.if-all_absent.true)) (none_written a.out.now a.at)
 
 lay-tag-requires : tie.Need-lay_tag-requires
-lay-tag-requires c κs = let E = c.before.before.before in let S = E.before.before.before.before.before.before in (S.requires.0, search rules, omega (arith, S.requires.1), S.requires.2, (fit E).inside)
+lay-tag-requires c κs = let E = c.before.before.before in let S = E.before.before.before.before.before.before.before.before in (S.requires.0, search rules, omega (arith, S.requires.1), S.requires.2, (fit E.before.before).inside)
 
 same_length : tie.Need-shape_of-out
 same_length c = search rules
 
 returns-2 : tie.Need-returns
-returns-2 c = let T = c.before.before in wrote_as (as-tag T.before.before.before.before) T.lay_tag.ensures
+returns-2 c = let T = c.before.before in wrote_as (as-tag T.before.before.before.before.before.before) T.lay_tag.ensures
 
 pub lay_measures_spec : {M : Type 1} → statement M
 lay_measures_spec =

@@ -80,13 +80,13 @@ slice-aggregate-lay-tag-2 c = search rules
 lay-tag-requires : tie.Need-lay_tag-b-requires
 lay-tag-requires c κs =
     let H = c.before.before.before.before in
-    ((from-numbers H).requires.0, search rules, search rules, inside-at H 2 8 (omega arith), going_fits (going_start (fit H)) (person H) (author H ++ measures H) refl)
+    ((from-numbers H).requires.0, search rules, search rules, inside-at H.before.before 2 8 (omega arith), going_fits (going_start (fit H.before.before)) (person H) (author H ++ measures H) refl)
 
 lay-tag-requires-2 : tie.Need-lay_tag-o-requires
 lay-tag-requires-2 c κs =
     let T = c.before.before.before.before.before.before in
     let H = from-tag T in
-    ((from-numbers H).pre.0, search rules, search rules, inside-at H 10 10 (omega arith), going_fits (person-in T) (author H) (measures H) refl)
+    ((from-numbers H).pre.0, search rules, search rules, inside-at H 10 10 (omega arith), going_fits (person-in T.before.before) (author H) (measures H) refl)
 
 slice-aggregate-lay-measures : tie.Need-slice_bounds-lay_measures-end
 slice-aggregate-lay-measures c = omega (arith, twice (from-tag (from-tag-2 c.before.before.before.before)))

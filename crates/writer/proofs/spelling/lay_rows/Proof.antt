@@ -79,19 +79,19 @@ other_fits : (c : tie.Else-heading) → let a = (from-else-2 c).args in Fits a.o
 other_fits c = fits_as (other-first c) (fits (from-else-2 c).requires.1)
 
 open_in : (c : tie.After-lay-b) → let I = c.before.before.before in let a = (from-else-2 I).args in Going a.out.now c.lay-b.new.0 a.at c.lay-b.result (all I) (a.placed.now ++ bytes "</S></MP>")
-open_in c = let I = c.before.before.before in going_on (going_start (other_fits I)) (bytes "<S>") ((from-else-2 I).args.placed.now ++ bytes "</S></MP>") refl (wrote c.lay-b.ensures)
+open_in c = let I = c.before.before.before in going_on (going_start (other_fits I.before)) (bytes "<S>") ((from-else-2 I).args.placed.now ++ bytes "</S></MP>") refl (wrote c.lay-b.ensures)
 
 rows_in : (c : tie.After-lay-c) → let I = c.before.before.before.before.before.before.before in let a = (from-else-2 I).args in Going a.out.now c.lay-c.new.0 a.at c.lay-c.result (all I) (bytes "</S></MP>")
-rows_in c = let O = c.before.before.before.before in let I = O.before.before.before in going_on (open_in O) (from-else-2 I).args.placed.now (bytes "</S></MP>") refl (wrote c.lay-c.ensures)
+rows_in c = let O = c.before.before.before.before in let I = O.before.before.before.before.before.before.before in going_on (open_in O) (from-else-2 I).args.placed.now (bytes "</S></MP>") refl (wrote c.lay-c.ensures)
 
 lay-requires : tie.Need-lay-requires
-lay-requires c κs = let I = c.before.before in omega (arith, ap length (no_rows I), (from-then-1 I).requires.1)
+lay-requires c κs = let I = c.before.before in omega (arith, ap length (no_rows I.before), (from-then-1 I).requires.1)
 
 same_length : tie.Need-shape_of-out-then-placed-eq0
 same_length c = search rules
 
 returns : tie.Need-returns-then-placed-eq0
-returns c = let L = c.before.before in wrote_as (no_rows L.before.before.before) (wrote L.lay.ensures)
+returns c = let L = c.before.before in wrote_as (no_rows L.before.before.before.before) (wrote L.lay.ensures)
 
 sub-lay : tie.Need-slice_bounds-lay-count
 sub-lay c = long c.before
@@ -100,28 +100,28 @@ lay-requires-2 : tie.Need-lay-a-requires
 lay-requires-2 c κs = let I = c.before.before in going_fits (going_start (heading-fits I)) (part I) (bytes "</S></MP>") refl
 
 lay-requires-3 : tie.Need-lay-requires-then-heading
-lay-requires-3 c κs = last_fits (part_in c.before.before.before.before)
+lay-requires-3 c κs = last_fits (part_in c.before.before.before.before.before)
 
 same-length-2 : tie.Need-shape_of-out-then-heading
 same-length-2 c = search rules
 
 returns-2 : tie.Need-returns-then-heading
-returns-2 c = let E = c.before.before in let P = E.before.before.before.before.before in let I = P.before.before.before in wrote_as (heading-first I) (last_on (part_in P) (heading-fits I) (wrote E.lay-then-heading.ensures))
+returns-2 c = let E = c.before.before in let P = E.before.before.before.before.before in let I = P.before.before.before in wrote_as (heading-first I.before) (last_on (part_in P.before) (heading-fits I.before) (wrote E.lay-then-heading.ensures))
 
 lay-requires-4 : tie.Need-lay-b-requires
-lay-requires-4 c κs = let I = c.before.before in going_fits (going_start (other_fits I)) (bytes "<S>") ((from-else-2 I).args.placed.now ++ bytes "</S></MP>") refl
+lay-requires-4 c κs = let I = c.before.before in going_fits (going_start (other_fits I.before)) (bytes "<S>") ((from-else-2 I).args.placed.now ++ bytes "</S></MP>") refl
 
 lay-requires-5 : tie.Need-lay-c-requires
 lay-requires-5 c κs = let O = c.before.before.before in let I = O.before.before.before in going_fits (open_in O) (from-else-2 I).args.placed.now (bytes "</S></MP>") refl
 
 lay-requires-6 : tie.Need-lay-requires-2
-lay-requires-6 c κs = last_fits (rows_in c.before.before.before.before)
+lay-requires-6 c κs = last_fits (rows_in c.before.before.before.before.before)
 
 same-length-3 : tie.Need-shape_of-out
 same-length-3 c = search rules
 
 returns-3 : tie.Need-returns
-returns-3 c = let E = c.before.before in let R = E.before.before.before.before.before in let I = R.before.before.before.before.before.before.before in wrote_as (other-first I) (last_on (rows_in R) (other_fits I) (wrote E.lay-2.ensures))
+returns-3 c = let E = c.before.before in let R = E.before.before.before.before.before in let I = R.before.before.before.before.before.before.before in wrote_as (other-first I.before.before) (last_on (rows_in R.before) (other_fits I.before.before) (wrote E.lay-2.ensures))
 
 pub lay_rows_spec : {M : Type 1} → statement M
 lay_rows_spec =

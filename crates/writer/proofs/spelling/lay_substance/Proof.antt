@@ -28,8 +28,8 @@ returns c = let S = c.before.before.before.before.before.before in let a = S.arg
 lay-tag-requires : tie.Need-lay_tag-requires
 lay-tag-requires c κs =
     let E = c.before.before.before in
-    let S = E.before.before.before.before.before.before in
-    (S.requires.0, search rules, omega (arith, S.requires.1), S.requires.2, (fit E).inside)
+    let S = E.before.before.before.before.before.before.before.before in
+    (S.requires.0, search rules, omega (arith, S.requires.1), S.requires.2, (fit E.before.before).inside)
 
 same_length : tie.Need-shape_of-out
 same_length c = search rules
@@ -37,9 +37,9 @@ same_length c = search rules
 returns-2 : tie.Need-returns
 returns-2 c =
     let T = c.before.before in
-    let E = T.before.before.before.before in
+    let E = T.before.before.before.before.before.before in
     let a = E.before.before.before.before.before.before.args in
-    wrote_as (substance_some a.text.now a.from a.rows.now E.if1.false) T.lay_tag.ensures
+    wrote_as (substance_some a.text.now a.from a.rows.now E.if-rows-from-eq0.false) T.lay_tag.ensures
 
 pub lay_substance_spec : {M : Type 1} → statement M
 lay_substance_spec =

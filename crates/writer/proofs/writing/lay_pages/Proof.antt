@@ -219,7 +219,7 @@ cast-lens c =
     let E = c.before.before in
     let T = E.before.before.before.before.before in
     let I = from-sizes T.before in
-    omega (arith, E.lay_page-e.ensures.behind, ap length (laid_as T _ (part-is T.before _ refl)), next_short _ _ _ _ _ _ I.before.loop-k.inv I.loop-test.taken)
+    omega (arith, E.lay_page-e.ensures.behind, ap length (laid_as T _ (part-is T.before _ refl)), next_short _ _ _ _ _ _ I.before.loop.inv I.loop-test.taken)
 
 mul-lens : tie.Need-offset_bounds-lens-k invariant-loop decreases-loop
 mul-lens c = search rules
