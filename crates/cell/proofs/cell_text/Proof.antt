@@ -34,16 +34,16 @@ shown-at K = K.a.given.0.0
 
 -- they are the answer's
 values-are : (K : tie.In-Shown-2) → values_of (Shown (shown-at K)) ≡ values-at K.before.before
-values-are K = ap values_of (sym K.a-1.given.1) ∙ K.before.before.cell_answer-a.ensures
+values-are K = ap values_of (sym K.in-Shown.is) ∙ K.before.cell_answer-a.ensures
 
 -- the part lies in the slice of its source, and is the text
-lies_at : (K : tie.In-Shown-2) (from : Source) → (shown-at K).source ≡ from → let A = K.before.before in (shown-at K).at + (shown-at K).len ≤ length (buffer from (text_at A).now (catalogue-at A).now)
-lies_at K = let a = K.before.before.before.before.before.before.args in part_lies a.rows.now a.count a.text a.catalogue a.row a.field a.which (shown-at K) (values-are K)
+lies_at : (K : tie.In-Shown-2) (from : Source) → (shown-at K).source ≡ from → let A = K.before in (shown-at K).at + (shown-at K).len ≤ length (buffer from (text_at A).now (catalogue-at A).now)
+lies_at K = let a = K.before.before.before.before.before.args in part_lies a.rows.now a.count a.text a.catalogue a.row a.field a.which (shown-at K) (values-are K)
 
 part_at : (K : tie.In-Shown-2) (from : Source) → (shown-at K).source ≡ from
-    → let A = K.before.before in part (buffer from (text_at A) (catalogue-at A)) (shown-at K).at ((shown-at K).at + (shown-at K).len - (shown-at K).at) ≡ text_in (text_at A) (catalogue-at A) (values-at A)
+    → let A = K.before in part (buffer from (text_at A) (catalogue-at A)) (shown-at K).at ((shown-at K).at + (shown-at K).len - (shown-at K).at) ≡ text_in (text_at A) (catalogue-at A) (values-at A)
 part_at K from e =
-    let A = K.before.before in
+    let A = K.before in
     let a = A.before.before.before.before.args in
     let n : (shown-at K).at + (shown-at K).len - (shown-at K).at ≡ (shown-at K).len = omega arith in
     ap (part (buffer from (text_at A) (catalogue-at A)) (shown-at K).at) n ∙ part_is a.rows.now a.count a.text a.catalogue a.row a.field a.which (shown-at K) (values-are K) from e
@@ -59,7 +59,7 @@ enum_told c = search rules
 
 add-result : tie.Need-overflow_add-result
 add-result c =
-    let h = lies_at c.before.before.before Plan c.enum_told-1.given.1 in
+    let h = lies_at c.before Plan c.in-Plan.is in
     search rules
 
 sub-result : tie.Need-slice_bounds-result-count
@@ -69,14 +69,14 @@ part-result-start : tie.Need-slice_bounds-result-start
 part-result-start c = search rules
 
 part-result-end : tie.Need-slice_bounds-result-end
-part-result-end c = lies_at c.before.before.before Plan c.enum_told-1.given.1
+part-result-end c = lies_at c.before Plan c.in-Plan.is
 
 enum-told-2 : tie.Need-enum_told-in-Catalogue
 enum-told-2 c = search rules
 
 add-result-2 : tie.Need-overflow_add-result-in-Catalogue
 add-result-2 c =
-    let h = lies_at c.before.before.before Catalogue c.enum_told-in-Catalogue-1.given.1 in
+    let h = lies_at c.before Catalogue c.in-Catalogue.is in
     search rules
 
 sub-result-2 : tie.Need-slice_bounds-result-count-in-Catalogue
@@ -86,7 +86,7 @@ part-result-start-2 : tie.Need-slice_bounds-result-start-in-Catalogue
 part-result-start-2 c = search rules
 
 part-result-end-2 : tie.Need-slice_bounds-result-end-in-Catalogue
-part-result-end-2 c = lies_at c.before.before.before Catalogue c.enum_told-in-Catalogue-1.given.1
+part-result-end-2 c = lies_at c.before Catalogue c.in-Catalogue.is
 
 enum-told-3 : tie.Need-enum_told-in-Neither
 enum-told-3 c = search rules
@@ -101,22 +101,22 @@ slice-aggregate-result-2 : tie.Need-slice_bounds-result-end-in-NoCell
 slice-aggregate-result-2 c = search rules
 
 returns : tie.Need-returns-in-Plan
-returns c = part_at c.before.before.before.before Plan c.before.enum_told-1.given.1
+returns c = part_at c.before.before Plan c.before.in-Plan.is
 
 returns-2 : tie.Need-returns-in-Catalogue
-returns-2 c = part_at c.before.before.before.before Catalogue c.before.enum_told-in-Catalogue-1.given.1
+returns-2 c = part_at c.before.before Catalogue c.before.in-Catalogue.is
 
 returns-3 : tie.Need-returns-in-Neither
 returns-3 c =
-    let K = c.before.before.before in
-    let a = K.before.before.before.before.before.before.args in
-    empty_is a.rows.now a.count a.text a.catalogue a.row a.field a.which (shown-at K) (values-are K) c.enum_told-in-Neither-1.given.1
+    let K = c.before in
+    let a = K.before.before.before.before.before.args in
+    empty_is a.rows.now a.count a.text a.catalogue a.row a.field a.which (shown-at K) (values-are K) c.in-Neither.is
 
 returns-4 : tie.Need-returns-in-NoCell
 returns-4 c =
-    let A = c.before.before in
+    let A = c.before in
     let a = A.before.before.before.before.args in
-    refused_is a.rows.now a.count a.text a.catalogue a.row a.field a.which (refused-at A c.enum_told-in-NoCell-1.given.1)
+    refused_is a.rows.now a.count a.text a.catalogue a.row a.field a.which (refused-at A c.in-NoCell.is)
 
 pub cell_text_spec : {M : Type 1} → statement M
 cell_text_spec =

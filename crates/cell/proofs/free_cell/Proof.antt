@@ -25,13 +25,13 @@ dose-cell-requires-3 : tie.Need-dose_cell-requires-in-Unstated
 dose-cell-requires-3 c κs = search rules
 
 returns : tie.Need-returns-in-Scheme
-returns c = c.dose_cell.ensures ∙ sym (ap free_found c.before.enum_told-1.given.1)
+returns c = c.dose_cell.ensures ∙ sym (ap free_found c.before.in-Scheme.is)
 
 returns-2 : tie.Need-returns-in-Free
-returns-2 c = c.dose_cell-in-Free.ensures ∙ sym (ap free_found c.before.before.dose-1.given.1)
+returns-2 c = c.dose_cell-in-Free.ensures ∙ sym (ap free_found c.before.in-Free.is)
 
 returns-3 : tie.Need-returns-in-Unstated
-returns-3 c = c.dose_cell-in-Unstated.ensures ∙ sym (ap free_found c.before.enum_told-in-Unstated-1.given.1)
+returns-3 c = c.dose_cell-in-Unstated.ensures ∙ sym (ap free_found c.before.in-Unstated.is)
 
 pub free_cell_spec : {M : Type 1} → statement M
 free_cell_spec =

@@ -31,14 +31,14 @@ dose-cell-requires-3 c κs = search rules
 
 returns : tie.Need-returns-in-Scheme
 returns c =
-    let n = c.before.before.before.before.before.before.args.number in
-    c.dose_cell.ensures ∙ ap (λ (s : Span). dose_found s (eqb s.len 0)) c.before.before.time_of-s.ensures ∙ sym (ap (time_found (time_of n)) c.before.before.before.before.dose-1.given.1)
+    let n = c.before.before.before.before.args.number in
+    c.dose_cell.ensures ∙ ap (λ (s : Span). dose_found s (eqb s.len 0)) c.before.before.time_of-s.ensures ∙ sym (ap (time_found (time_of n)) c.before.before.before.in-Scheme.is)
 
 returns-2 : tie.Need-returns-in-Free
-returns-2 c = c.dose_cell-in-Free.ensures ∙ sym (ap (time_found (time_of c.before.before.before.args.number)) c.before.enum_told-1.given.1)
+returns-2 c = c.dose_cell-in-Free.ensures ∙ sym (ap (time_found (time_of c.before.before.args.number)) c.before.in-Free.is)
 
 returns-3 : tie.Need-returns-in-Unstated
-returns-3 c = c.dose_cell-in-Unstated.ensures ∙ sym (ap (time_found (time_of c.before.before.before.args.number)) c.before.enum_told-in-Unstated-1.given.1)
+returns-3 c = c.dose_cell-in-Unstated.ensures ∙ sym (ap (time_found (time_of c.before.before.args.number)) c.before.in-Unstated.is)
 
 pub time_cell_spec : {M : Type 1} → statement M
 time_cell_spec =

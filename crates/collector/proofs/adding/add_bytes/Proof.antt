@@ -10,8 +10,8 @@ use Rattle.collector.proofs.adding.add_bytes.Statement.{statement}
 use Rattle.collector.proofs.adding.add_bytes.Tie as tie
 
 -- the page has no fault
-fine-at : (c : tie.In_default) → IsSheet c.before.before.before.before.before.before.args.page.now
-fine-at c = fine_sheet _ (sym c.enum_told-1.given.1 ∙ c.before.before.before.judge_page-verdict.ensures)
+fine-at : (c : tie.In_default) → IsSheet c.before.before.before.before.before.args.page.now
+fine-at c = fine_sheet _ (sym c.in_default.is ∙ c.before.before.judge_page-verdict.ensures)
 
 slice-aggregate-judge-page : tie.Need-slice_bounds-judge_page-end
 slice-aggregate-judge-page c = search rules
@@ -29,7 +29,7 @@ cast-refused-page-2 : tie.Need-overflow_cast-place
 cast-refused-page-2 c = search rules
 
 refused-page-requires : tie.Need-refused_page-requires
-refused-page-requires c κs = let R = c.before in page_refused _ _ _ (sym R.verdict-1.given.1 ∙ R.before.before.before.judge_page-verdict.ensures)
+refused-page-requires c κs = let R = c in page_refused _ _ _ (sym R.in-Refused.is ∙ R.before.before.judge_page-verdict.ensures)
 
 unchanged-requires : tie.Need-unchanged-requires
 unchanged-requires c κs = search rules
@@ -37,10 +37,10 @@ unchanged-requires c κs = search rules
 returns : tie.Need-returns-in-Refused
 returns c =
     let P = c.before in
-    let R = P.before.before in
-    let J = R.before.before.before in
+    let R = P.before in
+    let J = R.before.before in
     promised_same _ _ _ _ _ c.unchanged.ensures.0 c.unchanged.ensures.1
-    (adds_refused J.before.before.before.args.c _ _ _ P.refused_page.result (sym R.verdict-1.given.1 ∙ J.judge_page-verdict.ensures) P.refused_page.ensures)
+    (adds_refused J.before.before.before.args.c _ _ _ P.refused_page.result (sym R.in-Refused.is ∙ J.judge_page-verdict.ensures) P.refused_page.ensures)
 
 enum_told : tie.Need-enum_told-1
 enum_told c = search rules

@@ -9,8 +9,8 @@ use Rattle.collector.proofs.adding.agrees.Tie as tie
 use borrow.Author.Rules.{rules}
 
 -- the first page has no fault
-fine-at : (c : tie.In-Fine) → IsSheet c.before.before.before.before.before.before.before.args.first.now
-fine-at c = fine_sheet _ (sym c.enum_told-1.given.1 ∙ c.before.before.before.judge_page-verdict.ensures)
+fine-at : (c : tie.In-Fine) → IsSheet c.before.before.before.before.before.before.args.first.now
+fine-at c = fine_sheet _ (sym c.in-Fine.is ∙ c.before.before.judge_page-verdict.ensures)
 
 slice-aggregate-judge-page : tie.Need-slice_bounds-judge_page-end
 slice-aggregate-judge-page c = search rules
@@ -25,10 +25,10 @@ enum-told-2 : tie.Need-enum_told-in_default
 enum-told-2 c = search rules
 
 returns : tie.Need-returns-in_default
-returns c = refused_first _ _ _ _ (sym c.enum_told-in_default-1.given.1 ∙ c.before.before.before.judge_page-verdict.ensures)
+returns c = refused_first _ _ _ _ (sym c.in_default.is ∙ c.before.before.judge_page-verdict.ensures)
 
 belong-requires : tie.Need-belong-requires
-belong-requires c κs = (fine-at c, c.before.before.before.before.before.before.before.requires)
+belong-requires c κs = (fine-at c, c.before.before.before.before.before.before.requires)
 
 returns-2 : tie.Need-returns
 returns-2 c = by_heads _ _ _ (says _ (fine-at c.before)) c.belong.ensures

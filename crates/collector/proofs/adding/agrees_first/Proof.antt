@@ -8,8 +8,8 @@ use Rattle.collector.proofs.adding.agrees_first.Statement.{statement}
 use Rattle.collector.proofs.adding.agrees_first.Tie as tie
 
 -- the first page's place
-place_at : (c : tie.In-Here) → let a = c.before.before.before.before.before.before.args in Place a.lens a.first c.before.at-1.given.0.0 c.before.at-1.given.0.1.0
-place_at c = place _ _ _ _ (sym c.before.at-1.given.1 ∙ c.before.before.before.page_at-at.ensures)
+place_at : (c : tie.In-Here) → let a = c.before.before.before.before.args in Place a.lens a.first c.in-Here.start c.in-Here.len
+place_at c = place _ _ _ _ (sym c.in-Here.is ∙ c.before.page_at-at.ensures)
 
 page-at-requires : tie.Need-page_at-at-requires
 page-at-requires c κs = search rules
@@ -21,7 +21,7 @@ enum_told : tie.Need-enum_told-1
 enum_told c = search rules
 
 returns : tie.Need-returns-in_default
-returns c = no_first _ _ _ _ (told_missing _ _ _ (sym c.enum_told-1.given.1 ∙ c.before.before.page_at-at.ensures))
+returns c = no_first _ _ _ _ (told_missing _ _ _ (sym c.in_default.is ∙ c.before.page_at-at.ensures))
 
 add-agrees : tie.Need-overflow_add-start
 add-agrees c = omega (arith, (place_at c).inside)
@@ -33,7 +33,7 @@ part-agrees-start : tie.Need-slice_bounds-agrees-start
 part-agrees-start c = search rules
 
 part-agrees-end : tie.Need-slice_bounds-agrees-end
-part-agrees-end c = omega (arith, (place_at c).inside, c.before.before.before.before.before.before.requires.0)
+part-agrees-end c = omega (arith, (place_at c).inside, c.before.before.before.before.requires.0)
 
 agrees-requires : tie.Need-agrees-requires
 agrees-requires c κs = search rules

@@ -18,11 +18,11 @@ enum-told-2 c = search rules
 
 returns : tie.Need-returns-in_default
 unfolding first_with
-returns c = let P = c.before.before in rw (told_missing _ _ _ (sym c.enum_told-in_default-1.given.1 ∙ P.page_at-at.ensures))
+returns c = let P = c.before in rw (told_missing _ _ _ (sym c.in_default.is ∙ P.page_at-at.ensures))
 
 returns-2 : tie.Need-returns
 unfolding first_with
-returns-2 c = let P = c.before.before in rw (place _ _ _ _ (sym c.enum_told-1.given.1 ∙ P.page_at-at.ensures)).is_here
+returns-2 c = let P = c.before in rw (place _ _ _ _ (sym c.in-Here.is ∙ P.page_at-at.ensures)).is_here
 
 pub first_with_spec : {M : Type 1} → statement M
 first_with_spec = tie.close (tie.spec page-at-requires enum_told enum-told-2 returns returns-2)

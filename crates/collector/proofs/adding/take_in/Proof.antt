@@ -39,15 +39,15 @@ number_at : (c : tie.After-page_at-at) → let a = (start_of (passed c).before).
 number_at c = c.before.Numbers-of.ensures.0
 
 -- the place of the page that is kept for it
-place_at : (c : tie.In-Here) → let P = c.before.before.before in Place (start_of (passed P).before).args.c.lens P.before.Numbers-of.result.no c.before.at-1.given.0.0 c.before.at-1.given.0.1.0
-place_at c = place _ _ _ _ (sym c.before.at-1.given.1 ∙ c.before.before.before.page_at-at.ensures)
+place_at : (c : tie.In-Here) → let P = c.before in Place (start_of (passed P).before).args.c.lens P.before.Numbers-of.result.no c.in-Here.start c.in-Here.len
+place_at c = place _ _ _ _ (sym c.in-Here.is ∙ c.before.page_at-at.ensures)
 
 -- whether its bytes are the page's
-same_at : (c : tie.After-spells) → let P = c.before.before.before.before.before in let a = (start_of (passed P).before).args in
+same_at : (c : tie.After-spells) → let P = c.before.before.before in let a = (start_of (passed P).before).args in
     (here a.c.lens (content_of (tags_at a.page.now 0)).no ≡ true) × (same a.page.now (kept a.c.pages a.c.lens (content_of (tags_at a.page.now 0)).no) ≡ c.spells.result)
 same_at c =
     let K = c.before.before in
-    let P = K.before.before.before.before.before in
+    let P = K.before.before.before in
     let a = (start_of (passed P).before).args in
     rw (← number_at P) ((place_at K).is_here, same_kept a.c.pages a.c.lens a.page.now _ _ _ _ (long-at (start_of (passed P).before)) (place_at K) c.spells.ensures)
 
@@ -91,7 +91,7 @@ unchanged-requires-2 c κs = search rules
 returns-2 : tie.Need-returns-then-spells
 returns-2 c =
     let S = c.before.before in
-    let P = S.before.before.before.before.before in
+    let P = S.before.before.before in
     let e = same_at S in
     promised_same _ _ _ _ _ c.unchanged-then-spells.ensures.0 c.unchanged-then-spells.ensures.1 (takes_same (start_of (passed P).before).args.c _ _ (alike_at (passed P)) e.0 (e.1 ∙ c.before.if-spells.true))
 
@@ -101,7 +101,7 @@ unchanged-requires-3 c κs = search rules
 returns-3 : tie.Need-returns-in-Here
 returns-3 c =
     let S = c.before.before in
-    let P = S.before.before.before.before.before in
+    let P = S.before.before.before in
     let e = same_at S in
     promised_same _ _ _ _ _ c.unchanged-in-Here.ensures.0 c.unchanged-in-Here.ensures.1 (takes_second (start_of (passed P).before).args.c _ _ (alike_at (passed P)) e.0 (e.1 ∙ c.before.if-spells.false))
 
@@ -115,7 +115,7 @@ cast-i : tie.Need-overflow_cast-i
 cast-i c = search rules
 
 sub-i : tie.Need-overflow_sub-i
-sub-i c = omega (arith, number_at c.before.before.before, (says_at c.before.before.before.before.before.before.before.before.before.before.before).least)
+sub-i c = omega (arith, number_at c.before.before, (says_at c.before.before.before.before.before.before.before.before.before.before).least)
 
 slice-aggregate-lay : tie.Need-slice_bounds-lay-end
 slice-aggregate-lay c = search rules
@@ -125,27 +125,27 @@ mul-lay c = search rules
 
 lay-requires : tie.Need-lay-requires
 lay-requires c κs =
-    let s = says_at c.before.before.before.before.before.before.before.before.before.before.before.before in
-    omega (arith, long-at c.before.before.before.before.before.before.before.before.before.before.before.before, number_at c.before.before.before.before, s.fits.short, s.fits.no_small, s.least)
+    let s = says_at c.before.before.before.before.before.before.before.before.before.before.before in
+    omega (arith, long-at c.before.before.before.before.before.before.before.before.before.before.before, number_at c.before.before.before, s.fits.short, s.fits.no_small, s.least)
 
 cast-lens : tie.Need-overflow_cast-lens
-cast-lens c = omega (arith, (says_at c.before.before.before.before.before.before.before.before.before.before.before.before.before.before).fits.short)
+cast-lens c = omega (arith, (says_at c.before.before.before.before.before.before.before.before.before.before.before.before.before).fits.short)
 
 mul-lens : tie.Need-offset_bounds-lens-i
 mul-lens c = search rules
 
 array-write-lens : tie.Need-bounds-lens-i
 array-write-lens c =
-    let s = says_at c.before.before.before.before.before.before.before.before.before.before.before.before.before.before in
-    omega (arith, number_at c.before.before.before.before.before.before, s.fits.no_small, s.least)
+    let s = says_at c.before.before.before.before.before.before.before.before.before.before.before.before.before in
+    omega (arith, number_at c.before.before.before.before.before, s.fits.no_small, s.least)
 
 returns-4 : tie.Need-returns
 returns-4 c =
     let Y = c.before in
     let N = Y.before.before in
-    let P = N.before.before.before in
+    let P = N.before.before in
     let a = (start_of (passed P).before).args in
-    let e : here a.c.lens (content_of (tags_at a.page.now 0)).no ≡ false = ap (here a.c.lens) (sym (number_at P)) ∙ told_missing _ _ _ (sym N.before.enum_told-1.given.1 ∙ P.page_at-at.ensures) in
+    let e : here a.c.lens (content_of (tags_at a.page.now 0)).no ≡ false = ap (here a.c.lens) (sym (number_at P)) ∙ told_missing _ _ _ (sym N.before.in_default.is ∙ P.page_at-at.ensures) in
     takes_new a.c a.page.now (content_of (tags_at a.page.now 0)) (alike_at (passed P)) e _
     (keeps a.c a.page.now (content_of (tags_at a.page.now 0)) _ _ _ _ (number_at P) P.before.Numbers-of.ensures.1 N.first_with-first.ensures Y.lay.ensures.1)
 

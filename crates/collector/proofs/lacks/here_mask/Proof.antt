@@ -36,9 +36,9 @@ loop-less c = search rules
 
 loop-again : tie.Need-loop-k-preserved-in-Here invariant-loop decreases-loop
 loop-again c =
-    let P = c.before.before.before in
+    let P = c.before.before in
     let L = P.before.before in
-    (search rules, c.with_number-mask.ensures ∙ one_more L.before.args.lens L.loop-k.k L.loop-k.mask L.loop-k.invariant.1 (place _ _ _ _ (sym c.before.enum_told-1.given.1 ∙ P.page_at-page.ensures)).is_here)
+    (search rules, c.with_number-mask.ensures ∙ one_more L.before.args.lens L.loop-k.k L.loop-k.mask L.loop-k.invariant.1 (place _ _ _ _ (sym c.before.in-Here.is ∙ P.page_at-page.ensures)).is_here)
 
 enum-told-2 : tie.Need-enum_told-in-Missing invariant-loop decreases-loop
 enum-told-2 c = search rules
@@ -48,9 +48,9 @@ loop-less-2 c = search rules
 
 loop-again-2 : tie.Need-loop-k-preserved invariant-loop decreases-loop
 loop-again-2 c =
-    let P = c.before.before in
+    let P = c.before in
     let L = P.before.before in
-    (search rules, L.loop-k.invariant.1 ∙ none_more L.before.args.lens L.loop-k.k (told_missing _ _ _ (sym c.enum_told-in-Missing-1.given.1 ∙ P.page_at-page.ensures)))
+    (search rules, L.loop-k.invariant.1 ∙ none_more L.before.args.lens L.loop-k.k (told_missing _ _ _ (sym c.in-Missing.is ∙ P.page_at-page.ensures)))
 
 returns : tie.Need-returns invariant-loop decreases-loop
 returns c = let L = c.before in all_nine L.before.args.lens L.loop-k.k L.loop-k.mask c.loop-k-test.false L.loop-k.invariant.1

@@ -91,13 +91,13 @@ empty-requires-2 c κs = search rules
 
 returns-2 : tie.Need-returns-in_default invariant-loop decreases-loop
 returns-2 c =
-    let P = c.before.before.before in
+    let P = c.before.before in
     let T = P.before in
     let L = T.before in
     let Z = L.before.before.before in
     let s = start_of Z.before in
     let H = held_at L in
-    let low = lowest_is s.args.c L.loop-k.starts L.loop-k.sizes L.loop-k.k H (subst (λ (z : ℕ). L.loop-k.k < z) Z.count-z.ensures T.loop-k-test.true) (told_missing _ _ _ (sym c.before.enum_told-1.given.1 ∙ P.page_at-page.ensures)) in
+    let low = lowest_is s.args.c L.loop-k.starts L.loop-k.sizes L.loop-k.k H (subst (λ (z : ℕ). L.loop-k.k < z) Z.count-z.ensures T.loop-k-test.true) (told_missing _ _ _ (sym c.before.in_default.is ∙ P.page_at-page.ensures)) in
     refuse s 11 (L.loop-k.k + 1) 0 (eleven _ _ _ (roomy-at Z.before) L.loop-k.k low) _ refl c.empty-in_default.ensures
 
 cast-starts : tie.Need-overflow_cast-starts invariant-loop decreases-loop
@@ -107,7 +107,7 @@ mul-starts : tie.Need-offset_bounds-starts-k invariant-loop decreases-loop
 mul-starts c = search rules
 
 array-write-starts : tie.Need-bounds-starts-k invariant-loop decreases-loop
-array-write-starts c = let H = c.before.before.before.before.before.loop-k.invariant in omega (arith, H.long, H.nine)
+array-write-starts c = let H = c.before.before.before.loop-k.invariant in omega (arith, H.long, H.nine)
 
 cast-sizes : tie.Need-overflow_cast-sizes invariant-loop decreases-loop
 cast-sizes c = search rules
@@ -116,17 +116,17 @@ mul-sizes : tie.Need-offset_bounds-sizes-k invariant-loop decreases-loop
 mul-sizes c = search rules
 
 array-write-sizes : tie.Need-bounds-sizes-k invariant-loop decreases-loop
-array-write-sizes c = let H = c.before.before.before.before.before.loop-k.invariant in omega (arith, H.wide, H.nine)
+array-write-sizes c = let H = c.before.before.before.loop-k.invariant in omega (arith, H.wide, H.nine)
 
 loop-less : tie.Need-loop-k-smaller invariant-loop decreases-loop
 loop-less c = search rules
 
 loop-again : tie.Need-loop-k-preserved invariant-loop decreases-loop
 loop-again c =
-    let P = c.before.before.before in
+    let P = c.before in
     let T = P.before in
     let L = T.before in
-    let Q = place _ _ _ _ (sym c.before.page-1.given.1 ∙ P.page_at-page.ensures) in
+    let Q = place _ _ _ _ (sym c.in-Here.is ∙ P.page_at-page.ensures) in
     next_page _ _ _ _ L.loop-k.k _ _ L.loop-k.invariant T.loop-k-test.true Q.is_here Q.start_is Q.len_is
 
 cast-m : tie.Need-overflow_cast-m invariant-loop decreases-loop

@@ -123,7 +123,7 @@ unfolding in_set
 returns-15 c = let a = c.before.before.before.args in c.all_in-in-15.ensures ∙ by_number a.rule 15 a.v.now c.before.in-15.is
 
 returns-16 : tie.Need-returns-in_default
-returns-16 c = let a = c.before.before.args in sym (ap (λ (r : Rule). obeys r a.v.now) (text_rule a.rule (λ p q. let l = none_of a.rule 15 c.in_default.rest p in omega arith)))
+returns-16 c = let a = c.before.before.args in sym (ap (λ (r : Rule). obeys r a.v.now) (text_rule a.rule (λ p q. let l = none_of a.rule 15 c.in_default.in_default-own.rest p in omega arith)))
 
 pub keeps_rule_spec : {M : Type 1} → statement M
 keeps_rule_spec =

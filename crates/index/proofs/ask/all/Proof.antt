@@ -14,11 +14,11 @@ use Rattle.index.proofs.ask.all.Statement.{statement}
 use Rattle.index.proofs.ask.all.Tie as tie
 
 -- the rows that hold the number stand in the pairs that were found
-found_at : (c : tie.In-Span) → let a = c.before.before.before.before.before.before.before.before.args in let g = c.before.at-1.given.0 in
+found_at : (c : tie.In-Span) → let a = c.before.before.before.before.before.before.args in let g = c.before.at.given.0 in
     (is : List ℕ) × ((replied a.rows.now a.count a.index.now a.length a.number ≡ reply_of is) × Stand a.index.now is g.0 g.1.0)
 found_at c =
-    let a = c.before.before.before.before.before.before.before.before.args in
-    subst (λ r. Finds r (replied a.rows.now a.count a.index.now a.length a.number) a.index.now) c.before.at-1.given.1 c.before.before.before.find.ensures
+    let a = c.before.before.before.before.before.before.args in
+    subst (λ r. Finds r (replied a.rows.now a.count a.index.now a.length a.number) a.index.now) c.in-Span.is c.before.find.ensures
 
 -- the list is long enough
 fits-at : (c : tie.Else-list-lt-ROWS) → let a = c.before.before.before.before.args in
@@ -46,16 +46,16 @@ enum-known-at c = search rules
 returns-2 : tie.Need-returns-then-count-eq0
 returns-2 c =
     let K = c.before in
-    let a = c.before.before.before.before.before.before.before.before.before.args in
+    let a = c.before.before.before.before.before.before.before.args in
     let (is, (f, S)) = found_at K in
-    let e = fits-at K.before.before.before.before ∙ f ∙ told_none is (S.many ∙ c.if-count-eq0.true) in
+    let e = fits-at K.before.before ∙ f ∙ told_none is (S.many ∙ c.if-count-eq0.true) in
     (sym (ap reply_told e), sym (ap (λ x. list_after x a.list.now) e))
 
 lay-rows-requires : tie.Need-lay_rows-requires
 lay-rows-requires c κs =
     let K = c.before.before in
     let S = (found_at K).1.1 in
-    (S.lent, le_trans S.few K.before.before.before.before.if-list-lt-ROWS.false)
+    (S.lent, le_trans S.few K.before.before.if-list-lt-ROWS.false)
 
 mul-t17 : tie.Need-overflow_mul-result
 mul-t17 c = search (rules, (found_at c.before.before.before.before.before).1.1)
@@ -74,16 +74,16 @@ cast-t22 c = search (rules, (found_at c.before.before.before.before.before.befor
 
 returns-3 : tie.Need-returns-in-NoRoom
 returns-3 c =
-    let F = c.before.before in
-    let a = c.before.before.before.before.before.before.before.args in
-    let e = fits-at F.before ∙ subst (λ r. Finds r (replied a.rows.now a.count a.index.now a.length a.number) a.index.now) c.enum_told-1.given.1 F.find.ensures in
+    let F = c.before in
+    let a = c.before.before.before.before.before.before.args in
+    let e = fits-at F.before ∙ subst (λ r. Finds r (replied a.rows.now a.count a.index.now a.length a.number) a.index.now) c.in-NoRoom.is F.find.ensures in
     (sym (ap reply_told e), sym (ap (λ x. list_after x a.list.now) e))
 
 returns-4 : tie.Need-returns-in-OtherIndex
 returns-4 c =
-    let F = c.before.before in
-    let a = c.before.before.before.before.before.before.before.args in
-    let e = fits-at F.before ∙ subst (λ r. Finds r (replied a.rows.now a.count a.index.now a.length a.number) a.index.now) c.enum_told-in-OtherIndex-1.given.1 F.find.ensures in
+    let F = c.before in
+    let a = c.before.before.before.before.before.before.args in
+    let e = fits-at F.before ∙ subst (λ r. Finds r (replied a.rows.now a.count a.index.now a.length a.number) a.index.now) c.in-OtherIndex.is F.find.ensures in
     (sym (ap reply_told e), sym (ap (λ x. list_after x a.list.now) e))
 
 same_length : tie.Need-shape_of-list
@@ -94,10 +94,10 @@ returns-5 c =
     let L = c.before.before.before in
     let E = L.before.before in
     let K = E.before in
-    let a = c.before.before.before.before.before.before.before.before.before.before.before.before.before.before.args in
-    let g = K.before.at-1.given.0 in
+    let a = c.before.before.before.before.before.before.before.before.before.before.before.before.args in
+    let g = K.before.at.given.0 in
     let (is, (f, S)) = found_at K in
-    let e = fits-at K.before.before.before.before ∙ f in
+    let e = fits-at K.before.before ∙ f in
     let x = first_stands a.index.now is g.0 g.1.0 S E.if-count-eq0.false in (
       sym (ap reply_told e ∙ told_first is g.1.0 S.many E.if-count-eq0.false ∙ ap (λ i. Held i g.1.0) (sym x)),
       L.lay_rows.ensures ∙ ap (λ l. laid a.list.now 0 l) S.rows_are ∙ sym (ap (λ y. list_after y a.list.now) e ∙ told_all is a.list.now (λ z. E.if-count-eq0.false (sym S.many ∙ z))),

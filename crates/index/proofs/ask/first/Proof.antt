@@ -12,11 +12,11 @@ use Rattle.index.proofs.ask.first.Statement.{statement}
 use Rattle.index.proofs.ask.first.Tie as tie
 
 -- the rows that hold the number stand in the pairs that were found
-found_at : (c : tie.In-Span) → let a = c.before.before.before.before.before.before.args in let g = c.before.at-1.given.0 in
+found_at : (c : tie.In-Span) → let a = c.before.before.before.before.args in let g = c.before.at.given.0 in
     (is : List ℕ) × ((replied a.rows.now a.count a.index.now a.length a.number ≡ reply_of is) × Stand a.index.now is g.0 g.1.0)
 found_at c =
-    let a = c.before.before.before.before.before.before.args in
-    subst (λ r. Finds r (replied a.rows.now a.count a.index.now a.length a.number) a.index.now) c.before.at-1.given.1 c.before.before.before.find.ensures
+    let a = c.before.before.before.before.args in
+    subst (λ r. Finds r (replied a.rows.now a.count a.index.now a.length a.number) a.index.now) c.in-Span.is c.before.find.ensures
 
 find-requires : tie.Need-find-requires
 find-requires c κs = search rules
@@ -52,19 +52,19 @@ cast-t16 c = search (rules, (found_at c.before.before).1.1)
 
 returns-2 : tie.Need-returns-in-NoRoom
 returns-2 c =
-    let a = c.before.before.before.before.before.args in
-    sym (ap reply_told (subst (λ r. Finds r (replied a.rows.now a.count a.index.now a.length a.number) a.index.now) c.enum_told-1.given.1 c.before.before.find.ensures))
+    let a = c.before.before.before.before.args in
+    sym (ap reply_told (subst (λ r. Finds r (replied a.rows.now a.count a.index.now a.length a.number) a.index.now) c.in-NoRoom.is c.before.find.ensures))
 
 returns-3 : tie.Need-returns-in-OtherIndex
 returns-3 c =
-    let a = c.before.before.before.before.before.args in
-    sym (ap reply_told (subst (λ r. Finds r (replied a.rows.now a.count a.index.now a.length a.number) a.index.now) c.enum_told-in-OtherIndex-1.given.1 c.before.before.find.ensures))
+    let a = c.before.before.before.before.args in
+    sym (ap reply_told (subst (λ r. Finds r (replied a.rows.now a.count a.index.now a.length a.number) a.index.now) c.in-OtherIndex.is c.before.find.ensures))
 
 returns-4 : tie.Need-returns-else-count-eq0
 returns-4 c =
     let K = c.before.before in
-    let a = c.before.before.before.before.before.before.before.before.args in
-    let g = K.before.at-1.given.0 in
+    let a = c.before.before.before.before.before.before.args in
+    let g = K.before.at.given.0 in
     let (is, (e, S)) = found_at K in
     let x = first_stands a.index.now is g.0 g.1.0 S c.before.if-count-eq0.false in
     sym (ap reply_told e ∙ told_first is g.1.0 S.many c.before.if-count-eq0.false ∙ ap (λ i. Held i g.1.0) (sym x))

@@ -14,11 +14,11 @@ use Rattle.index.proofs.ask.nth.Statement.{statement}
 use Rattle.index.proofs.ask.nth.Tie as tie
 
 -- the rows that hold the number stand in the pairs that were found
-found_at : (c : tie.In-Span) → let a = c.before.before.before.before.before.before.args in let g = c.before.at-1.given.0 in
+found_at : (c : tie.In-Span) → let a = c.before.before.before.before.args in let g = c.before.at.given.0 in
     (is : List ℕ) × ((replied a.rows.now a.count a.index.now a.length a.number ≡ reply_of is) × Stand a.index.now is g.0 g.1.0)
 found_at c =
-    let a = c.before.before.before.before.before.before.args in
-    subst (λ r. Finds r (replied a.rows.now a.count a.index.now a.length a.number) a.index.now) c.before.at-1.given.1 c.before.before.before.find.ensures
+    let a = c.before.before.before.before.args in
+    subst (λ r. Finds r (replied a.rows.now a.count a.index.now a.length a.number) a.index.now) c.in-Span.is c.before.find.ensures
 
 find-requires : tie.Need-find-requires
 find-requires c κs = search rules
@@ -34,21 +34,21 @@ enum-known-at c = search rules
 
 returns : tie.Need-returns-then-count-eq0
 returns c =
-    let a = c.before.before.before.before.before.before.before.args in
+    let a = c.before.before.before.before.before.args in
     let (is, (e, S)) = found_at c.before in
     sym (ap (nth_told a.k) (e ∙ told_none is (S.many ∙ c.if-count-eq0.true)))
 
 returns-2 : tie.Need-returns-then-k-lt1
 returns-2 c =
     let E = c.before in
-    let a = c.before.before.before.before.before.before.before.before.args in
+    let a = c.before.before.before.before.before.before.args in
     let (is, (e, S)) = found_at E.before in
     sym (ap (nth_told a.k) e ∙ told_nth is a.k (λ z. E.if-count-eq0.false (sym S.many ∙ z)) ∙ kth_none is a.k c.if-k-lt1.true)
 
 returns-3 : tie.Need-returns-then-k-count
 returns-3 c =
     let E = c.before.before in
-    let a = c.before.before.before.before.before.before.before.before.before.args in
+    let a = c.before.before.before.before.before.before.before.args in
     let h = c.if-k-count.true in
     let (is, (e, S)) = found_at E.before in
     sym (ap (nth_told a.k) e ∙ told_nth is a.k (λ z. E.if-count-eq0.false (sym S.many ∙ z)) ∙ kth_past is a.k (omega (arith, h, S.many)))
@@ -73,20 +73,20 @@ shared-slice-read-t19 c = search (rules, (found_at c.before.before.before.before
 
 returns-4 : tie.Need-returns-in-NoRoom
 returns-4 c =
-    let a = c.before.before.before.before.before.args in
-    sym (ap (nth_told a.k) (subst (λ r. Finds r (replied a.rows.now a.count a.index.now a.length a.number) a.index.now) c.enum_told-1.given.1 c.before.before.find.ensures))
+    let a = c.before.before.before.before.args in
+    sym (ap (nth_told a.k) (subst (λ r. Finds r (replied a.rows.now a.count a.index.now a.length a.number) a.index.now) c.in-NoRoom.is c.before.find.ensures))
 
 returns-5 : tie.Need-returns-in-OtherIndex
 returns-5 c =
-    let a = c.before.before.before.before.before.args in
-    sym (ap (nth_told a.k) (subst (λ r. Finds r (replied a.rows.now a.count a.index.now a.length a.number) a.index.now) c.enum_told-in-OtherIndex-1.given.1 c.before.before.find.ensures))
+    let a = c.before.before.before.before.args in
+    sym (ap (nth_told a.k) (subst (λ r. Finds r (replied a.rows.now a.count a.index.now a.length a.number) a.index.now) c.in-OtherIndex.is c.before.find.ensures))
 
 returns-6 : tie.Need-returns-else-k-count
 returns-6 c =
     let T = c.before in
     let E = T.before.before in
-    let a = c.before.before.before.before.before.before.before.before.before.before.args in
-    let g = E.before.before.at-1.given.0 in
+    let a = c.before.before.before.before.before.before.before.before.args in
+    let g = E.before.before.at.given.0 in
     let h = T.before.if-k-lt1.false in
     let k = T.if-k-count.false in
     let (is, (e, S)) = found_at E.before in

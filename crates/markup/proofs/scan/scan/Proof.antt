@@ -19,25 +19,25 @@ abbrev decreases-loop : tie.decreases-loop-i
 decreases-loop page kinds next starts₀ ends₀ depth₀ mode₀ k₀ e₀ i₀ starts ends depth mode k e i = length page - i
 
 -- a byte of the page is below 256
-low : (c : tie.Else-k-e invariant-loop decreases-loop) → get_or c.before.before.before.before.before.args.page.now c.before.before.before.loop-i.i 0 < 256
-low c = omega (arith, c.before.shared_slice_known-in-loop-i-1.given c.before.before.before.loop-i.i)
+low : (c : tie.After-shared_slice_known-in-loop-i-1 invariant-loop decreases-loop) → get_or c.before.before.before.before.args.page.now c.before.before.loop-i.i 0 < 256
+low c = omega (arith, c.shared_slice_known-in-loop-i-1.given c.before.before.loop-i.i)
 
 -- what the table keeps at this byte
 kept : (c : tie.Else-k-e invariant-loop decreases-loop) →
     let L = c.before.before.before in
     Moved L.loop-i.mode (get_or nexts (L.loop-i.mode * 26 + get_or kinds (get_or L.before.before.args.page.now L.loop-i.i 0) 0) 0)
-kept c = let L = c.before.before.before in moved L.loop-i.mode _ L.loop-i.invariant.mode_low (low c)
+kept c = let L = c.before.before.before in moved L.loop-i.mode _ L.loop-i.invariant.mode_low (low c.before)
 
 -- what the table says at this byte
 said : (c : tie.Else-k-e invariant-loop decreases-loop) →
     let L = c.before.before.before in
     next (mode_of L.loop-i.mode) (get_or L.before.before.args.page.now L.loop-i.i 0)
     ≡ act_of (get_or nexts (L.loop-i.mode * 26 + get_or kinds (get_or L.before.before.args.page.now L.loop-i.i 0) 0) 0)
-said c = let L = c.before.before.before in rule L.loop-i.mode _ L.loop-i.invariant.mode_low (low c)
+said c = let L = c.before.before.before in rule L.loop-i.mode _ L.loop-i.invariant.mode_low (low c.before)
 
 -- the byte's kind
-kind-of : (c : tie.Else-k-e invariant-loop decreases-loop) → get_or kinds (get_or c.before.before.before.before.before.args.page.now c.before.before.before.loop-i.i 0) 0 < 26
-kind-of c = kind_low _ (low c)
+kind_of : (c : tie.After-shared_slice_known-in-loop-i-1 invariant-loop decreases-loop) → get_or kinds (get_or c.before.before.before.before.args.page.now c.before.before.loop-i.i 0) 0 < 26
+kind_of c = kind_low _ (low c)
 
 loop-holds : tie.Need-loop-i-init invariant-loop decreases-loop
 loop-holds c = begun _ _ _ c.before.requires refl refl
@@ -70,22 +70,22 @@ mul-a : tie.Need-overflow_mul-a invariant-loop decreases-loop
 mul-a c = search rules
 
 cast-a-2 : tie.Need-overflow_cast-a-else-k-e invariant-loop decreases-loop
-cast-a-2 c = omega (arith, low c)
+cast-a-2 c = omega (arith, low c.before)
 
 array-read-a : tie.Need-bounds-kinds-b invariant-loop decreases-loop
-array-read-a c = omega (arith, low c)
+array-read-a c = omega (arith, low c.before)
 
 cast-a-3 : tie.Need-overflow_cast-a-else-k-e-2 invariant-loop decreases-loop
 unfolding kinds
-cast-a-3 c = omega (arith, kind-of c)
+cast-a-3 c = omega (arith, kind_of c.before)
 
 add_a : tie.Need-overflow_add-a invariant-loop decreases-loop
 unfolding kinds
-add_a c = omega (arith, kind-of c, c.before.before.before.loop-i.invariant.mode_low)
+add_a c = omega (arith, kind_of c.before, c.before.before.before.loop-i.invariant.mode_low)
 
 array-read-a-2 : tie.Need-bounds-next-mode invariant-loop decreases-loop
 unfolding kinds
-array-read-a-2 c = omega (arith, kind-of c, c.before.before.before.loop-i.invariant.mode_low)
+array-read-a-2 c = omega (arith, kind_of c.before, c.before.before.before.loop-i.invariant.mode_low)
 
 loop-less-2 : tie.Need-loop-i-smaller-then-a-lt-PUSH invariant-loop decreases-loop
 loop-less-2 c = search rules

@@ -24,22 +24,22 @@ returns : tie.Need-returns-then-b-eq38
 returns c = rw (eq-eqb _ 38 c.before.before.before.before.before.before.if-b-eq38.true) c.before.before.lay.ensures
 
 lay-requires-2 : tie.Need-lay-requires-then-b-eq60
-lay-requires-2 c κs = rw (ne_eqb _ 38 c.before.before.before.if-b-eq60.false, eq-eqb _ 60 c.before.before.before.if-b-eq60.true) at c.before.before.before.before.before.before.requires
+lay-requires-2 c κs = rw (ne_eqb _ 38 c.before.before.before.before.if-b-eq38.false, eq-eqb _ 60 c.before.before.before.if-b-eq60.true) at c.before.before.before.before.before.before.requires
 
 same-length-2 : tie.Need-shape_of-out-then-b-eq60
 same-length-2 c = search rules
 
 returns-2 : tie.Need-returns-then-b-eq60
-returns-2 c = rw (ne_eqb _ 38 c.before.before.before.before.before.before.if-b-eq60.false, eq-eqb _ 60 c.before.before.before.before.before.before.if-b-eq60.true) c.before.before.lay-then-b-eq60.ensures
+returns-2 c = rw (ne_eqb _ 38 c.before.before.before.before.before.before.before.if-b-eq38.false, eq-eqb _ 60 c.before.before.before.before.before.before.if-b-eq60.true) c.before.before.lay-then-b-eq60.ensures
 
 lay-requires-3 : tie.Need-lay-requires-then-b-eq34
-lay-requires-3 c κs = rw (ne_eqb _ 38 c.before.before.before.before.if-b-eq60.false, ne_eqb _ 60 c.before.before.before.if-b-eq34.false, eq-eqb _ 34 c.before.before.before.if-b-eq34.true) at c.before.before.before.before.before.before.before.requires
+lay-requires-3 c κs = rw (ne_eqb _ 38 c.before.before.before.before.before.if-b-eq38.false, ne_eqb _ 60 c.before.before.before.before.if-b-eq60.false, eq-eqb _ 34 c.before.before.before.if-b-eq34.true) at c.before.before.before.before.before.before.before.requires
 
 same-length-3 : tie.Need-shape_of-out-then-b-eq34
 same-length-3 c = search rules
 
 returns-3 : tie.Need-returns-then-b-eq34
-returns-3 c = rw (ne_eqb _ 38 c.before.before.before.before.before.before.before.if-b-eq60.false, ne_eqb _ 60 c.before.before.before.before.before.before.if-b-eq34.false, eq-eqb _ 34 c.before.before.before.before.before.before.if-b-eq34.true) c.before.before.lay-then-b-eq34.ensures
+returns-3 c = rw (ne_eqb _ 38 c.before.before.before.before.before.before.before.before.if-b-eq38.false, ne_eqb _ 60 c.before.before.before.before.before.before.before.if-b-eq60.false, eq-eqb _ 34 c.before.before.before.before.before.before.if-b-eq34.true) c.before.before.lay-then-b-eq34.ensures
 
 slice-write-out : tie.Need-bounds-out-n
 slice-write-out c = fits c

@@ -37,7 +37,7 @@ returns-7 : tie.Need-returns-in_default
 returns-7 c =
     let n = c.before.args.number in
     let P = c.before.requires in
-    let ((((((_, two), three), four), five), six), seven) = c.in_default.rest in
+    let ((((((_, two), three), four), five), six), seven) = c.in_default.in_default-own.rest in
     let above = past n 7 (past n 6 (past n 5 (past n 4 (past n 3 (past n 2 P.least two) three) four) five) six) seven in
     as-found n 8 _ _ (omega (arith, P.most))
 

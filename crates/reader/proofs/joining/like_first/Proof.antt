@@ -50,7 +50,7 @@ alike-requires : tie.Need-alike-requires
 alike-requires c κs =
     let s = c.before.before.before.before.before.before.before.before.before.before.before in
     let T = called s.requires.1 in
-    let one = c.before.before.before.before.page_at-two.ensures in
+    let one = c.before.before.before.before.before.page_at-one.ensures in
     let two = c.before.before.before.before.page_at-two.ensures in (
       subst (λ (w : List ℕ). HeadAt w s.args.side.now s.args.tape.now s.args.h) (sym one) s.requires.2,
       (page_fits {i = 0} T (omega (arith, s.requires.0)) one).fit,
@@ -59,7 +59,7 @@ alike-requires c κs =
     )
 
 returns : tie.Need-returns
-returns c = let s = c.before.before.before.before.before.before.before.before.before.before.before.before.args in alike_first (pages_at s.buffer.now s.starts.now s.lens.now) s.i _ _ _ c.before.before.before.before.before.page_at-two.ensures c.before.before.before.before.before.page_at-two.ensures c.alike.ensures
+returns c = let s = c.before.before.before.before.before.before.before.before.before.before.before.before.args in alike_first (pages_at s.buffer.now s.starts.now s.lens.now) s.i _ _ _ c.before.before.before.before.before.before.page_at-one.ensures c.before.before.before.before.before.page_at-two.ensures c.alike.ensures
 
 pub like_first_spec : {M : Type 1} → statement M
 like_first_spec =

@@ -106,15 +106,15 @@ cast-refused-page-3 : tie.Need-overflow_cast-place invariant-loop decreases-loop
 cast-refused-page-3 c = search rules
 
 refused-page-requires : tie.Need-refused_page-requires invariant-loop decreases-loop
-refused-page-requires c κs = let N = c.before in page_refused _ _ _ (sym N.verdict-1.given.1 ∙ N.before.before.before.judge_page-verdict.ensures)
+refused-page-requires c κs = let N = c in page_refused _ _ _ (sym N.in-Refused.is ∙ N.before.before.judge_page-verdict.ensures)
 
 returns : tie.Need-returns-in-Refused invariant-loop decreases-loop
 returns c =
-    let N = c.before.before in
-    let P = N.before.before.before in
+    let N = c.before in
+    let P = N.before.before in
     let T = P.before.before.before.before.before in
     let L = T.before in
-    c.refused_page.ensures ∙ (stops _ L.loop-i.i _ (turn _ _ _ _ _ _ L.loop-i.invariant T.loop-i-test.true) _ _ (sym N.verdict-1.given.1 ∙ P.judge_page-verdict.ensures) ∙ sym L.loop-i.invariant.left)
+    c.refused_page.ensures ∙ (stops _ L.loop-i.i _ (turn _ _ _ _ _ _ L.loop-i.invariant T.loop-i-test.true) _ _ (sym N.in-Refused.is ∙ P.judge_page-verdict.ensures) ∙ sym L.loop-i.invariant.left)
 
 enum_told : tie.Need-enum_told-1 invariant-loop decreases-loop
 enum_told c = search rules
@@ -127,7 +127,7 @@ loop-less c = search rules
 
 loop-again : tie.Need-loop-i-preserved invariant-loop decreases-loop
 loop-again c =
-    let P = c.before.before.before in
+    let P = c.before.before in
     let T = P.before.before.before.before.before in
     let L = T.before in
     let H = L.loop-i.invariant in
@@ -138,7 +138,7 @@ loop-again c =
       inside = H.inside;
       pages = H.pages;
       room = search rules;
-      left = H.left ∙ goes_on _ L.loop-i.i _ (turn _ _ _ _ _ _ H T.loop-i-test.true) (sym c.enum_told-1.given.1 ∙ P.judge_page-verdict.ensures);
+      left = H.left ∙ goes_on _ L.loop-i.i _ (turn _ _ _ _ _ _ H T.loop-i-test.true) (sym c.in-Fine.is ∙ P.judge_page-verdict.ensures);
     }
 
 returns-2 : tie.Need-returns invariant-loop decreases-loop

@@ -62,14 +62,14 @@ enum-known-piece : tie.Need-enum_known-piece invariant-loop decreases-loop
 enum-known-piece c = search rules
 
 same_length : tie.Need-shape_of-raws-in-Stop invariant-loop decreases-loop
-same_length c = long c.before.before.before.before
+same_length c = long c.before.before
 
 returns : tie.Need-returns-in-Stop invariant-loop decreases-loop
 returns c =
-    let P = c.before in
-    let N = P.before.before in
+    let P = c in
+    let N = P.before in
     let L = N.before in
-    at_stop L.loop-shut.invariant.0 _ (N.next_attr-piece.ensures.0 ∙ ap (first_of (entry L).args.page.now) P.piece-1.given.1)
+    at_stop L.loop-shut.invariant.0 _ (N.next_attr-piece.ensures.0 ∙ ap (first_of (entry L).args.page.now) P.in-Stop.is)
 
 enum-known-piece-2 : tie.Need-enum_known-piece-in-Attribute-1 invariant-loop decreases-loop
 enum-known-piece-2 c = search rules
@@ -83,13 +83,13 @@ module _ (P : tie.In-Attribute-2 invariant-loop decreases-loop) where
   page = (entry head).args.page.now
 
   -- its places lie in order
-  order : Inner head.loop.i (length page) (Attribute P.piece-in-Attribute-1.given.0.0 P.piece-in-Attribute-1.given.0.1.0 P.piece-in-Attribute-1.given.0.1.1.0 P.piece-in-Attribute-1.given.0.1.1.1.0)
-  order = subst (λ r. Inner head.loop.i (length page) r) P.piece-in-Attribute-1.given.1 P.before.before.next_attr-piece.ensures.1
+  order : Inner head.loop.i (length page) (Attribute P.in-Attribute.name_at P.in-Attribute.name_end P.in-Attribute.raw_at P.in-Attribute.raw_end)
+  order = subst (λ r. Inner head.loop.i (length page) r) P.in-Attribute.is P.before.next_attr-piece.ensures.1
 
   -- it and what stands behind it
   shape : inside_at page head.loop.i
-      ≡ first_of page (Attribute P.piece-in-Attribute-1.given.0.0 P.piece-in-Attribute-1.given.0.1.0 P.piece-in-Attribute-1.given.0.1.1.0 P.piece-in-Attribute-1.given.0.1.1.1.0)
-  shape = P.before.before.next_attr-piece.ensures.0 ∙ ap (first_of page) P.piece-in-Attribute-1.given.1
+      ≡ first_of page (Attribute P.in-Attribute.name_at P.in-Attribute.name_end P.in-Attribute.raw_at P.in-Attribute.raw_end)
+  shape = P.before.next_attr-piece.ensures.0 ∙ ap (first_of page) P.in-Attribute.is
 
 sub-field-in : tie.Need-slice_bounds-field_in-count invariant-loop decreases-loop
 sub-field-in c = let h = order c.before.before in omega (arith, h.1)

@@ -66,10 +66,10 @@ module _ (c : tie.In-End-2 invariant-loop decreases-loop) where
   ended_by = c.before.before
 
   abbrev end-at : ℕ
-  end-at = c.before.before.before.mark-in-Start-1.given.0.0
+  end-at = c.before.before.in-Start.i
 
   end-order : Outer ended_by.before.loop.at (length (page_at ended_by.before)) (End end-at)
-  end-order = order ended_by (End end-at) c.before.before.before.mark-in-Start-1.given.1
+  end-order = order ended_by (End end-at) c.before.before.in-Start.is
 
 -- a start tag: where it stands, where its name ends
 module _ (c : tie.In-Start-2 invariant-loop decreases-loop) where
@@ -77,13 +77,13 @@ module _ (c : tie.In-Start-2 invariant-loop decreases-loop) where
   started-by = c.before.before
 
   abbrev start-at : ℕ
-  start-at = c.before.before.before.mark-in-Start-1.given.0.0
+  start-at = c.before.before.in-Start.i
 
   abbrev name-end : ℕ
-  name-end = c.before.before.before.mark-in-Start-1.given.0.1.0
+  name-end = c.before.before.in-Start.name_end
 
   start-order : Outer started-by.before.loop.at (length (page_at started-by.before)) (Start start-at name-end)
-  start-order = order started-by (Start start-at name-end) c.before.before.before.mark-in-Start-1.given.1
+  start-order = order started-by (Start start-at name-end) c.before.before.in-Start.is
 
 -- a start tag once its element is known: what stands in it, and the state behind it
 module _ (c : tie.After-kind_under-kind invariant-loop decreases-loop) where
@@ -156,10 +156,10 @@ same_length c = search rules
 returns : tie.Need-returns-in-Nothing invariant-loop decreases-loop
 returns c =
     let T = c.before.before in
-    let N = T.before.before in
+    let N = T.before in
     let L = N.before in
     c.told.ensures
-    ∙ ap verdict_by (c.before.finish.ensures ∙ sym (L.loop-i.invariant.right ∙ on_nothing (st_of L.loop-i.st) _ [] (shape N Nothing T.enum_told-1.given.1)))
+    ∙ ap verdict_by (c.before.finish.ensures ∙ sym (L.loop-i.invariant.right ∙ on_nothing (st_of L.loop-i.st) _ [] (shape N Nothing T.in-Nothing.is)))
 
 enum-known-mark : tie.Need-enum_known-mark invariant-loop decreases-loop
 enum-known-mark c = search rules
@@ -175,7 +175,7 @@ loop-less c = let h = end-order c.before.before in omega (arith, h.0, h.1)
 
 loop-again : tie.Need-loop-i-preserved-in-End invariant-loop decreases-loop
 loop-again c =
-    let M = c.before.before in
+    let M = c.before in
     let L = (ended_by M).before in
     record {
       inner = omega (arith, (end-order M).1);
@@ -184,7 +184,7 @@ loop-again c =
       table = L.loop.inv.table;
       bounds = L.loop.inv.bounds;
       sound = c.close-st.ensures.1;
-      right = L.loop.inv.right ∙ on_end (st_of L.loop.st) _ _ (shape (ended_by M) (End (end-at M)) M.mark-1.given.1)
+      right = L.loop.inv.right ∙ on_end (st_of L.loop.st) _ _ (shape (ended_by M) (End (end-at M)) M.in-End.is)
           ∙ ap (λ (s : St). judge_fold s (tags_at (page_at L) (end-at M + 1))) (sym c.close-st.ensures.0);
     }
 
@@ -193,7 +193,7 @@ enum-known-mark-2 c = search rules
 
 cast-place : tie.Need-overflow_cast-place invariant-loop decreases-loop
 cast-place c =
-    let M = c.before in
+    let M = c in
     let h = start-order M in
     omega (arith, h.1, h.2, short (started-by M).before)
 

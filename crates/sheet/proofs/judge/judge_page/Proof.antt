@@ -33,18 +33,18 @@ enum-known-extent c = search rules
 
 cast-place-2 : tie.Need-overflow_cast-place-in-Good
 cast-place-2 c =
-    let E = c.before in
-    let N = E.before.before in
+    let E = c in
+    let N = E.before in
     let F = N.before.before in
-    let g = good_within _ _ (sym N.scan-extent.ensures ∙ E.extent-1.given.1) in
+    let g = good_within _ _ (sym N.scan-extent.ensures ∙ E.in-Good.is) in
     omega (arith, g, F.before.if-n-gt-PAGE.false)
 
 returns-4 : tie.Need-returns-in-Good
 returns-4 c =
-    let E = c.before in
-    let N = E.before.before in
+    let E = c in
+    let N = E.before in
     let F = N.before.before in
-    sym (page_malformed _ F.before.before.if-n-eq0.false F.before.if-n-gt-PAGE.false _ F.first_refused-i.ensures N.before.if-i-n.false _ (sym E.extent-1.given.1 ∙ N.scan-extent.ensures))
+    sym (page_malformed _ F.before.before.if-n-eq0.false F.before.if-n-gt-PAGE.false _ F.first_refused-i.ensures N.before.if-i-n.false _ (sym E.in-Good.is ∙ N.scan-extent.ensures))
 
 enum_told : tie.Need-enum_told-1
 enum_told c = search rules
@@ -58,10 +58,10 @@ same_length c = search rules
 returns-5 : tie.Need-returns-in-Whole
 returns-5 c =
     let T = c.before.before.before.before in
-    let N = T.before.before in
+    let N = T.before in
     let F = N.before.before in
     c.before.before.faults_of.ensures
-    ∙ sym (page_whole _ F.before.before.if-n-eq0.false F.before.if-n-gt-PAGE.false _ F.first_refused-i.ensures N.before.if-i-n.false (sym T.enum_told-1.given.1 ∙ N.scan-extent.ensures))
+    ∙ sym (page_whole _ F.before.before.if-n-eq0.false F.before.if-n-gt-PAGE.false _ F.first_refused-i.ensures N.before.if-i-n.false (sym T.in-Whole.is ∙ N.scan-extent.ensures))
 
 pub judge_page_spec : {M : Type 1} → statement M
 judge_page_spec =

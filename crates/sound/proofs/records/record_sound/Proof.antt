@@ -32,9 +32,9 @@ all-absent-requires c κs = search rules
 returns : tie.Need-returns-then-all_absent
 returns c =
     let A = c.before in
-    let K = A.before.before.before in
+    let K = A.before.before in
     let a = K.before.before.before.before.args in
-    sym (heading_is a.text.now a.numbers.now (shows K _ A.before.enum_told-1.given.1) ∙ rw (sym A.all_absent.ensures ∙ c.if-all_absent.true))
+    sym (heading_is a.text.now a.numbers.now (shows K _ A.before.in-Heading.is) ∙ rw (sym A.all_absent.ensures ∙ c.if-all_absent.true))
 
 fine-plain-requires : tie.Need-fine_plain-requires
 fine-plain-requires c κs = let h = row_counts.0 in search rules
@@ -64,35 +64,35 @@ returns-2 : tie.Need-returns-else-all_absent
 unfolding kind_at
 returns-2 c =
     let A = c.before.before in
-    let K = A.before.before.before in
+    let K = A.before.before in
     let a = K.before.before.before.before.args in
-    c.fine_plain.ensures ∙ sym (heading_is a.text.now a.numbers.now (shows K _ A.before.enum_told-1.given.1) ∙ rw (sym A.all_absent.ensures ∙ c.before.if-all_absent.false))
+    c.fine_plain.ensures ∙ sym (heading_is a.text.now a.numbers.now (shows K _ A.before.in-Heading.is) ∙ rw (sym A.all_absent.ensures ∙ c.before.if-all_absent.false))
 
 returns-3 : tie.Need-returns-in-Medication
 returns-3 c =
-    let K = c.before.before.before in
+    let K = c.before.before in
     let a = K.before.before.before.before.args in
-    c.fine_medication.ensures ∙ sym (medication_is a.text.now a.numbers.now (shows K _ c.before.enum_told-in-Medication-1.given.1))
+    c.fine_medication.ensures ∙ sym (medication_is a.text.now a.numbers.now (shows K _ c.before.in-Medication.is))
 
 returns-4 : tie.Need-returns-in-Recipe
 unfolding kind_at
 returns-4 c =
-    let K = c.before.before.before in
+    let K = c.before.before in
     let a = K.before.before.before.before.args in
-    c.fine_plain-in-Recipe.ensures ∙ sym (recipe_is a.text.now a.numbers.now (shows K _ c.before.enum_told-in-Recipe-1.given.1))
+    c.fine_plain-in-Recipe.ensures ∙ sym (recipe_is a.text.now a.numbers.now (shows K _ c.before.in-Recipe.is))
 
 returns-5 : tie.Need-returns-in-Note
 unfolding kind_at
 returns-5 c =
-    let K = c.before.before.before in
+    let K = c.before.before in
     let a = K.before.before.before.before.args in
-    c.fine_plain-in-Note.ensures ∙ sym (note_is a.text.now a.numbers.now (shows K _ c.before.enum_told-in-Note-1.given.1))
+    c.fine_plain-in-Note.ensures ∙ sym (note_is a.text.now a.numbers.now (shows K _ c.before.in-Note.is))
 
 returns-6 : tie.Need-returns-in-Unknown
 returns-6 c =
-    let K = c.before.before in
+    let K = c.before in
     let a = K.before.before.before.before.args in
-    sym (unknown_is a.text.now a.numbers.now (shows K _ c.enum_told-in-Unknown-1.given.1))
+    sym (unknown_is a.text.now a.numbers.now (shows K _ c.in-Unknown.is))
 
 pub record_sound_spec : {M : Type 1} → statement M
 record_sound_spec =

@@ -31,18 +31,18 @@ entry L = L.before.before.before.before
 short : (c : tie.Start invariant-loop decreases-loop) → length c.args.page.now ≤ 1400
 short c = (judges c.args.page.now (sheet_by (elems_of c.args.page.now)) c.requires.0).short
 
-ended : (c : tie.In-End-2 invariant-loop decreases-loop) → let L = c.before.before.before in Ends (entry L).args.page.now L.loop-p.at c.mark-1.given.0.0
-ended c = ends c.mark-1.given.1 c.before.before.next_tag-mark.ensures
+ended : (c : tie.In-End-2 invariant-loop decreases-loop) → let L = c.before.before in Ends (entry L).args.page.now L.loop-p.at c.in-End.p
+ended c = ends c.in-End.is c.before.next_tag-mark.ensures
 
-started : (c : tie.In-Start-2 invariant-loop decreases-loop) → Starts (entry (head c)).args.page.now (head c).loop.at c.mark-in-Start-1.given.0.0 c.mark-in-Start-1.given.0.1.0
-started c = starts c.mark-in-Start-1.given.1 c.before.before.next_tag-mark.ensures
+started : (c : tie.In-Start-2 invariant-loop decreases-loop) → Starts (entry (head c)).args.page.now (head c).loop.at c.in-Start.p c.in-Start.name_end
+started c = starts c.in-Start.is c.before.next_tag-mark.ensures
 
 -- the element that stands next
-next : (c : tie.After-find-found invariant-loop decreases-loop) → let B = c.before.before.before.before in
-    Here (entry (head B)).args.page.now (head B).loop.at B.mark-in-Start-1.given.0.0 B.mark-in-Start-1.given.0.1.0 c.before.before.kind_named-kind.result c.find-found.new.1.1.1.1.0
+next : (c : tie.After-find-found invariant-loop decreases-loop) → let B = c.before.before.before in
+    Here (entry (head B)).args.page.now (head B).loop.at B.in-Start.p B.in-Start.name_end c.before.before.kind_named-kind.result c.find-found.new.1.1.1.1.0
 next c =
     let K = c.before.before.kind_named-kind in
-    let B = c.before.before.before.before in
+    let B = c.before.before.before in
     let N = (head B).loop.invariant.0.known in
     here (started B) N K.result K.ensures.0 (c.find-found.ensures.1 (c.find-found.ensures.0 ∙ not_strange (started B) N K.result K.ensures.0)).1
 
@@ -58,38 +58,38 @@ enum_told : tie.Need-enum_told-1 invariant-loop decreases-loop
 enum_told c = search rules
 
 same_length : tie.Need-shape_of-tape-in-Nothing invariant-loop decreases-loop
-same_length c = c.before.before.before.loop-p.invariant.0.tape_long
+same_length c = c.before.before.loop-p.invariant.0.tape_long
 
 same-length-2 : tie.Need-shape_of-side-in-Nothing invariant-loop decreases-loop
-same-length-2 c = c.before.before.before.loop-p.invariant.0.side_long
+same-length-2 c = c.before.before.loop-p.invariant.0.side_long
 
 returns : tie.Need-returns-in-Nothing invariant-loop decreases-loop
 returns c =
-    let N = c.before.before in
+    let N = c.before in
     let L = N.before in
     let S = entry L in
-    on_done L.loop-p.invariant.0 S.pre.0 (nothing S.args.page.now L.loop-p.at c.enum_told-1.given.1 N.next_tag-mark.ensures.0) S.pre.2 S.pre.4
+    on_done L.loop-p.invariant.0 S.pre.0 (nothing S.args.page.now L.loop-p.at c.in-Nothing.is N.next_tag-mark.ensures.0) S.pre.2 S.pre.4
 
 enum-known-mark : tie.Need-enum_known-mark invariant-loop decreases-loop
 enum-known-mark c = search rules
 
 add_at : tie.Need-overflow_add-at invariant-loop decreases-loop
-add_at c = let E = ended c.before in omega arith
+add_at c = let E = ended c in omega arith
 
 loop-less : tie.Need-loop-p-smaller-in-End invariant-loop decreases-loop
-loop-less c = let E = ended c.before in omega arith
+loop-less c = let E = ended c in omega arith
 
 loop-again : tie.Need-loop-p-preserved-in-End invariant-loop decreases-loop
-loop-again c = let L = c.before.before.before.before in (on_end L.loop-p.invariant.0 (ended c.before), L.loop-p.invariant.1)
+loop-again c = let L = c.before.before in (on_end L.loop-p.invariant.0 (ended c), L.loop-p.invariant.1)
 
 enum-known-mark-2 : tie.Need-enum_known-mark-in-Start-1 invariant-loop decreases-loop
 enum-known-mark-2 c = search rules
 
 add-kind-named : tie.Need-overflow_add-p invariant-loop decreases-loop
-add-kind-named c = let E = started c.before in omega arith
+add-kind-named c = let E = started c in omega arith
 
 kind-named-requires : tie.Need-kind_named-kind-requires invariant-loop decreases-loop
-kind-named-requires c κs = let E = started c.before in (omega arith, E.inner)
+kind-named-requires c κs = let E = started c in (omega arith, E.inner)
 
 slice-aggregate-find : tie.Need-slice_bounds-find-end invariant-loop decreases-loop
 slice-aggregate-find c = search rules
@@ -105,7 +105,7 @@ told_in c = c.find-found.auto.1.1.1.1.0 ∙ (head c.before.before.before.before)
 find-requires : tie.Need-find-found-requires invariant-loop decreases-loop
 find-requires c κs =
     let K = c.before in
-    let B = K.before.before in
+    let B = K.before in
     let S = entry (head B) in
     ((started B).inner, short S, K.kind_named-kind.ensures.1, S.pre.1, omega (arith, enough K, (head B).loop.invariant.1))
 
@@ -116,7 +116,7 @@ lay-elem-requires : tie.Need-lay_elem-made-requires invariant-loop decreases-loo
 lay-elem-requires c κs =
     let F = c.before.before.before.before in
     let K = F.before.before in
-    let B = K.before.before in
+    let B = K.before in
     let H = (head B).loop.invariant.0 in
     let S = entry (head B) in
     let E = started B in
@@ -133,16 +133,16 @@ lay-elem-requires c κs =
     )
 
 add-at-2 : tie.Need-overflow_add-at-in-Start invariant-loop decreases-loop
-add-at-2 c = let E = started (c.before.before.before.before.before.before.before.before.before.before.before.before.before) in omega arith
+add-at-2 c = let E = started (c.before.before.before.before.before.before.before.before.before.before.before.before) in omega arith
 
 loop-less-2 : tie.Need-loop-p-smaller invariant-loop decreases-loop
-loop-less-2 c = let E = started (c.before.before.before.before.before.before.before.before.before.before.before.before.before) in omega arith
+loop-less-2 c = let E = started (c.before.before.before.before.before.before.before.before.before.before.before.before) in omega arith
 
 loop-again-2 : tie.Need-loop-p-preserved invariant-loop decreases-loop
 loop-again-2 c =
     let X = c.before.before.before.before in
     let F = X.before.before.before.before.before in
-    let B = F.before.before.before.before in
+    let B = F.before.before.before in
     let E = started B in
     (on_elem (head B).loop.invariant.0 (next F) (omega (arith, E.high, E.inner)) X.lay_elem-made.ensures X.lay_elem-made.auto.1.1.1.1.0 X.lay_elem-made.auto.1.1.1.1.1.1.0, told_in F)
 

@@ -13,17 +13,17 @@ use Rattle.tollgilt.proofs.cells.lay_cell.Statement.{statement}
 use Rattle.tollgilt.proofs.cells.lay_cell.Tie as tie
 
 -- what the cell shows: the values that document 01 gives it
-values-are : (K : tie.In-Shown-2) → let A = K.before.before in let a = A.before.before.before.before.before.args in
-    values_of (Shown K.a-1.given.0.0) ≡ values_at a.rows.now a.count a.text.now a.catalogue.now a.row a.field a.which
-values-are K = ap values_of (sym K.a-1.given.1) ∙ K.before.before.cell_answer-a.ensures
+values-are : (K : tie.In-Shown-2) → let A = K.before in let a = A.before.before.before.before.before.args in
+    values_of (Shown K.in-Shown.s) ≡ values_at a.rows.now a.count a.text.now a.catalogue.now a.row a.field a.which
+values-are K = ap values_of (sym K.in-Shown.is) ∙ K.before.cell_answer-a.ensures
 
 -- the slice has the cell's text
-text-is : (T : tie.After-cell_text-shown) → let a = T.before.before.before.before.before.before.before.before.before.before.args in
+text-is : (T : tie.After-cell_text-shown) → let a = T.before.before.before.before.before.before.before.before.args in
     T.cell_text-shown.result.now ≡ text_of (cell_at a.rows.now a.count a.text.now a.catalogue.now a.row a.field a.which)
 text-is T =
-    let K = T.before.before.before in
-    let a = K.before.before.before.before.before.before.before.args in
-    (part_of a.rows.now a.count a.text a.catalogue a.row a.field a.which (Shown K.a-1.given.0.0) T.cell_text-shown.result (record { answer_is = values-are K; text-is = T.cell_text-shown.ensures })).2
+    let K = T.before.before in
+    let a = K.before.before.before.before.before.before.args in
+    (part_of a.rows.now a.count a.text a.catalogue a.row a.field a.which (Shown K.in-Shown.s) T.cell_text-shown.result (record { answer_is = values-are K; text-is = T.cell_text-shown.ensures })).2
 
 cell-answer-requires : tie.Need-cell_answer-a-requires
 cell-answer-requires c κs = search rules
@@ -40,7 +40,7 @@ cell-text-requires c κs = search rules
 lay-requires : tie.Need-lay-length-requires
 lay-requires c κs =
     let T = c.before in
-    let S = T.before.before.before.before.before.before.before.before.before.before in
+    let S = T.before.before.before.before.before.before.before.before in
     omega (arith, S.requires, ap length (text-is T))
 
 enum_told : tie.Need-enum_told-1
@@ -56,17 +56,17 @@ returns : tie.Need-returns-in-Shown
 returns c =
     let L = c.before.before in
     let T = L.before.before in
-    let K = T.before.before.before in
-    let a = K.before.before.before.before.before.before.before.args in
-    laid_cell a.rows.now a.count a.text.now a.catalogue.now a.row a.field a.which K.a-1.given.0.0 (values-are K) T.cell_text-shown.result.now a.out.now (text-is T)
+    let K = T.before.before in
+    let a = K.before.before.before.before.before.before.args in
+    laid_cell a.rows.now a.count a.text.now a.catalogue.now a.row a.field a.which K.in-Shown.s (values-are K) T.cell_text-shown.result.now a.out.now (text-is T)
     _ _ _ T.before.source_number-from.ensures L.lay-length.ensures
 
 returns-2 : tie.Need-returns-in-NoCell
 returns-2 c =
     let E = c.before in
-    let A = E.before.before in
+    let A = E.before in
     let a = A.before.before.before.before.before.args in
-    no_such_cell a.rows.now a.count a.text.now a.catalogue.now a.row a.field a.which (ap values_of (sym E.enum_told-1.given.1) ∙ A.cell_answer-a.ensures) a.out.now _ c.refused.ensures
+    no_such_cell a.rows.now a.count a.text.now a.catalogue.now a.row a.field a.which (ap values_of (sym E.in-NoCell.is) ∙ A.cell_answer-a.ensures) a.out.now _ c.refused.ensures
 
 pub lay_cell_spec : {M : Type 1} → statement M
 lay_cell_spec =

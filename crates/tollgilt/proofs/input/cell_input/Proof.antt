@@ -13,8 +13,8 @@ use Rattle.tollgilt.proofs.input.cell_input.Statement.{statement}
 use Rattle.tollgilt.proofs.input.cell_input.Tie as tie
 
 -- the number that the input asks for
-asked-at : (c : tie.In-Of) → let S = c.before.before.before.before.before.before.before in AsksFor S.args.input.now c.before.asked-1.given.0.0 c.before.asked-1.given.0.1.0
-asked-at c = subst (λ (q : Question). Asks c.before.before.before.before.before.before.before.args.input.now q) c.before.asked-1.given.1 c.before.before.before.asked_for-asked.ensures
+asked-at : (c : tie.In-Of) → let S = c.before.before.before.before.before in AsksFor S.args.input.now c.in-Of.number c.in-Of.pages
+asked-at c = subst (λ (q : Question). Asks c.before.before.before.before.before.args.input.now q) c.in-Of.is c.before.asked_for-asked.ensures
 
 returns : tie.Need-returns-then-out-lt-CELL_LINES
 returns c =
@@ -28,7 +28,7 @@ enum_told : tie.Need-enum_told-1
 enum_told c = search rules
 
 list-refusal-requires : tie.Need-list_refusal-length-requires
-list-refusal-requires c κs = omega (arith, refusal_short 1 0 0, c.before.before.before.before.if-out-lt-CELL_LINES.false)
+list-refusal-requires c κs = omega (arith, refusal_short 1 0 0, c.before.before.before.if-out-lt-CELL_LINES.false)
 
 enum-known-asked : tie.Need-enum_known-asked
 enum-known-asked c = search rules
@@ -51,10 +51,10 @@ same_length c = search rules
 returns-2 : tie.Need-returns-in-None
 returns-2 c =
     let R = c.before.before in
-    let E = R.before.before.before.before.before in
+    let E = R.before.before.before.before in
     let S = E.before.before.before in
     cell_printed_lem S.args.out.now S.args.input.now _ E.if-out-lt-CELL_LINES.false
-    (asked_none behind_row S.args.input.now (subst (λ (q : Question). Asks S.args.input.now q) R.before.before.enum_told-1.given.1 R.before.before.before.before.asked_for-asked.ensures)) _ _ R.list_refusal-length.ensures
+    (asked_none behind_row S.args.input.now (subst (λ (q : Question). Asks S.args.input.now q) R.before.before.in-None.is R.before.before.before.asked_for-asked.ensures)) _ _ R.list_refusal-length.ensures
 
 same-length-2 : tie.Need-shape_of-out-in-Of
 same-length-2 c = search rules
@@ -63,7 +63,7 @@ returns-3 : tie.Need-returns-in-Of
 returns-3 c =
     let F = c.before.before in
     let K = F.before.before.before in
-    let E = K.before.before.before.before in
+    let E = K.before.before in
     let S = E.before.before.before in
     cell_printed_lem S.args.out.now S.args.input.now _ E.if-out-lt-CELL_LINES.false (asked_one behind_row S.args.input.now _ _ (asked-at K)) _ _ F.field_asked-length.ensures
 

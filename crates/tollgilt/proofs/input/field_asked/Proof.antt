@@ -11,8 +11,8 @@ use Rattle.tollgilt.proofs.input.field_asked.Statement.{statement}
 use Rattle.tollgilt.proofs.input.field_asked.Tie as tie
 
 -- the number that the input asks for
-asked-at : (c : tie.In-Of) → let S = c.before.before.before.before.before.before in AsksFor S.args.input.now c.before.asked-1.given.0.0 c.before.asked-1.given.0.1.0
-asked-at c = subst (λ (q : Question). Asks c.before.before.before.before.before.before.args.input.now q) c.before.asked-1.given.1 c.before.before.before.asked_for-asked.ensures
+asked-at : (c : tie.In-Of) → let S = c.before.before.before.before in AsksFor S.args.input.now c.in-Of.number c.in-Of.pages
+asked-at c = subst (λ (q : Question). Asks c.before.before.before.before.args.input.now q) c.in-Of.is c.before.asked_for-asked.ensures
 
 asked-for-requires : tie.Need-asked_for-asked-requires
 asked-for-requires c κs = search rules
@@ -21,7 +21,7 @@ enum_told : tie.Need-enum_told-1
 enum_told c = search rules
 
 list-refusal-requires : tie.Need-list_refusal-requires
-list-refusal-requires c κs = omega (arith, refusal_short 1 0 0, c.before.before.before.before.before.before.requires)
+list-refusal-requires c κs = omega (arith, refusal_short 1 0 0, c.before.before.before.before.before.requires)
 
 enum-known-asked : tie.Need-enum_known-asked
 enum-known-asked c = search rules
@@ -44,8 +44,8 @@ same_length c = search rules
 returns : tie.Need-returns-in-None
 returns c =
     let R = c.before.before in
-    let S = R.before.before.before.before.before.before.before in
-    bytes_as (asked_none (λ n. asked (cell_behind S.args.row n)) S.args.input.now (subst (λ (q : Question). Asks S.args.input.now q) R.before.before.enum_told-1.given.1 R.before.before.before.before.asked_for-asked.ensures))
+    let S = R.before.before.before.before.before.before in
+    bytes_as (asked_none (λ n. asked (cell_behind S.args.row n)) S.args.input.now (subst (λ (q : Question). Asks S.args.input.now q) R.before.before.in-None.is R.before.before.before.asked_for-asked.ensures))
     S.args.out.now _ _ R.list_refusal.ensures
 
 same-length-2 : tie.Need-shape_of-out-in-Of
@@ -55,7 +55,7 @@ returns-2 : tie.Need-returns-in-Of
 returns-2 c =
     let F = c.before.before in
     let K = F.before.before.before in
-    let S = K.before.before.before.before.before.before in
+    let S = K.before.before.before.before in
     bytes_as (asked_one (λ n. asked (cell_behind S.args.row n)) S.args.input.now _ _ (asked-at K)) S.args.out.now _ _ F.third_asked.ensures
 
 pub field_asked_spec : {M : Type 1} → statement M

@@ -24,19 +24,19 @@ enum-told-5 : tie.Need-enum_told-in-Unknown
 enum-told-5 c = search rules
 
 returns : tie.Need-returns-in-Heading
-returns c = sym (ap (λ (k : Kind). Paper.is (paper_kind k) Paper.S) c.enum_told-1.given.1)
+returns c = sym (ap (λ (k : Kind). Paper.is (paper_kind k) Paper.S) c.in-Heading.is)
 
 returns-2 : tie.Need-returns-in-Medication
-returns-2 c = sym (ap (λ (k : Kind). Paper.is (paper_kind k) Paper.S) c.enum_told-in-Medication-1.given.1)
+returns-2 c = sym (ap (λ (k : Kind). Paper.is (paper_kind k) Paper.S) c.in-Medication.is)
 
 returns-3 : tie.Need-returns-in-Recipe
-returns-3 c = sym (ap (λ (k : Kind). Paper.is (paper_kind k) Paper.S) c.enum_told-in-Recipe-1.given.1)
+returns-3 c = sym (ap (λ (k : Kind). Paper.is (paper_kind k) Paper.S) c.in-Recipe.is)
 
 returns-4 : tie.Need-returns-in-Note
-returns-4 c = sym (ap (λ (k : Kind). Paper.is (paper_kind k) Paper.S) c.enum_told-in-Note-1.given.1)
+returns-4 c = sym (ap (λ (k : Kind). Paper.is (paper_kind k) Paper.S) c.in-Note.is)
 
 returns-5 : tie.Need-returns-in-Unknown
-returns-5 c = sym (ap (λ (k : Kind). Paper.is (paper_kind k) Paper.S) c.enum_told-in-Unknown-1.given.1)
+returns-5 c = sym (ap (λ (k : Kind). Paper.is (paper_kind k) Paper.S) c.in-Unknown.is)
 
 pub heads_spec : {M : Type 1} → statement M
 heads_spec =

@@ -37,36 +37,36 @@ as-named : {o o' : List ℕ} {a r : ℕ} (k : ℕ) (n v : List ℕ) → name_of 
 as-named k n v e w = wrote_as (ap (λ (m : List ℕ). attribute m v) (sym e)) w
 
 -- all times fit
-fit : (D : tie.In-Scheme-2) → let S = D.before.before.before.before.before in Fits S.args.out.now S.args.at (dose_text (paper_dose S.args.text.now (Scheme (times D))))
-fit D = let S = D.before.before.before.before.before in fits_as (ap (λ (d : Dose). dose_text (paper_dose S.args.text.now d)) D.dose-1.given.1) (fits S.requires.2)
+fit : (D : tie.In-Scheme-2) → let S = D.before.before.before.before in Fits S.args.out.now S.args.at (dose_text (paper_dose S.args.text.now (Scheme (times D))))
+fit D = let S = D.before.before.before.before in fits_as (ap (λ (d : Dose). dose_text (paper_dose S.args.text.now d)) D.in-Scheme.is) (fits S.requires.2)
 
 -- and lie in the text
-inside : (D : tie.In-Scheme-2) → let S = D.before.before.before.before.before in dose_within (length S.args.text.now) (Scheme (times D)) ≡ true
-inside D = let S = D.before.before.before.before.before in ap (dose_within (length S.args.text.now)) (sym D.dose-1.given.1) ∙ S.requires.1
+inside : (D : tie.In-Scheme-2) → let S = D.before.before.before.before in dose_within (length S.args.text.now) (Scheme (times D)) ≡ true
+inside D = let S = D.before.before.before.before in ap (dose_within (length S.args.text.now)) (sym D.in-Scheme.is) ∙ S.requires.1
 
 -- what is left behind each of the first three
-one_in : (c : tie.After-lay_field-a) → let S = c.before.before.before.before.before.before.before.before.before.before.before.before.before in let x = times c.before.before.before.before.before.before.before.before in Going S.args.out.now c.lay_field-a.new.0 S.args.at c.lay_field-a.result (dose_text (paper_dose S.args.text.now (Scheme x))) (part S (bytes "d") x.midday ++ (part S (bytes "v") x.evening ++ part S (bytes "h") x.night))
+one_in : (c : tie.After-lay_field-a) → let S = c.before.before.before.before.before.before.before.before.before.before.before in let x = times c.before.before.before.before.before.before.before.before in Going S.args.out.now c.lay_field-a.new.0 S.args.at c.lay_field-a.result (dose_text (paper_dose S.args.text.now (Scheme x))) (part S (bytes "d") x.midday ++ (part S (bytes "v") x.evening ++ part S (bytes "h") x.night))
 one_in c =
-    let D = c.before.before.before.before.before.before.before.before in
-    let S = c.before.before.before.before.before.before.before.before.before.before.before.before.before in
+    let D = c.before.before.before.before.before.before.before in
+    let S = c.before.before.before.before.before.before.before.before.before.before.before in
     let x = times D in
     going_on (going_start (fit D)) (part S (bytes "m") x.morning) (part S (bytes "d") x.midday ++ (part S (bytes "v") x.evening ++ part S (bytes "h") x.night)) refl (as-named (get_or S.args.keys.now 37 0) (bytes "m") (shown S.args.text.now (paper_span x.morning)) (dose_names S.args.keys.now S.requires.0).0 c.lay_field-a.ensures)
 
-two_in : (c : tie.After-lay_field-b) → let S = c.before.before.before.before.before.before.before.before.before.before.before.before.before.before.before.before.before.before in let x = times c.before.before.before.before.before.before.before.before.before.before.before.before.before in Going S.args.out.now c.lay_field-b.new.0 S.args.at c.lay_field-b.result (dose_text (paper_dose S.args.text.now (Scheme x))) (part S (bytes "v") x.evening ++ part S (bytes "h") x.night)
+two_in : (c : tie.After-lay_field-b) → let S = c.before.before.before.before.before.before.before.before.before.before.before.before.before.before.before.before in let x = times c.before.before.before.before.before.before.before.before.before.before.before.before.before in Going S.args.out.now c.lay_field-b.new.0 S.args.at c.lay_field-b.result (dose_text (paper_dose S.args.text.now (Scheme x))) (part S (bytes "v") x.evening ++ part S (bytes "h") x.night)
 two_in c =
-    let S = c.before.before.before.before.before.before.before.before.before.before.before.before.before.before.before.before.before.before in
+    let S = c.before.before.before.before.before.before.before.before.before.before.before.before.before.before.before.before in
     let x = times c.before.before.before.before.before.before.before.before.before.before.before.before.before in
     going_on (one_in c.before.before.before.before.before) (part S (bytes "d") x.midday) (part S (bytes "v") x.evening ++ part S (bytes "h") x.night) refl (as-named (get_or S.args.keys.now 38 0) (bytes "d") (shown S.args.text.now (paper_span x.midday)) (dose_names S.args.keys.now S.requires.0).1 c.lay_field-b.ensures)
 
-three-in : (c : tie.After-lay_field-c) → let S = c.before.before.before.before.before.before.before.before.before.before.before.before.before.before.before.before.before.before.before.before.before.before.before in let x = times c.before.before.before.before.before.before.before.before.before.before.before.before.before.before.before.before.before.before in Going S.args.out.now c.lay_field-c.new.0 S.args.at c.lay_field-c.result (dose_text (paper_dose S.args.text.now (Scheme x))) (part S (bytes "h") x.night)
+three-in : (c : tie.After-lay_field-c) → let S = c.before.before.before.before.before.before.before.before.before.before.before.before.before.before.before.before.before.before.before.before.before in let x = times c.before.before.before.before.before.before.before.before.before.before.before.before.before.before.before.before.before.before in Going S.args.out.now c.lay_field-c.new.0 S.args.at c.lay_field-c.result (dose_text (paper_dose S.args.text.now (Scheme x))) (part S (bytes "h") x.night)
 three-in c =
-    let S = c.before.before.before.before.before.before.before.before.before.before.before.before.before.before.before.before.before.before.before.before.before.before.before in
+    let S = c.before.before.before.before.before.before.before.before.before.before.before.before.before.before.before.before.before.before.before.before.before in
     let x = times c.before.before.before.before.before.before.before.before.before.before.before.before.before.before.before.before.before.before in
     going_on (two_in c.before.before.before.before.before) (part S (bytes "v") x.evening) (part S (bytes "h") x.night) refl (as-named (get_or S.args.keys.now 39 0) (bytes "v") (shown S.args.text.now (paper_span x.evening)) (dose_names S.args.keys.now S.requires.0).2 c.lay_field-c.ensures)
 
 -- the free text fits
-free-fits : (D : tie.In-Free-2) → let S = D.before.before.before.before.before in Fits S.args.out.now S.args.at (part S (bytes "t") D.dose-in-Free-1.given.0.0)
-free-fits D = let S = D.before.before.before.before.before in fits_as (ap (λ (d : Dose). dose_text (paper_dose S.args.text.now d)) D.dose-in-Free-1.given.1) (fits S.requires.2)
+free-fits : (D : tie.In-Free-2) → let S = D.before.before.before.before in Fits S.args.out.now S.args.at (part S (bytes "t") D.in-Free.s)
+free-fits D = let S = D.before.before.before.before in fits_as (ap (λ (d : Dose). dose_text (paper_dose S.args.text.now d)) D.in-Free.is) (fits S.requires.2)
 
 -- a key of the dose is one of the table's
 read_at : (S : tie.Start) → length S.args.keys.now ≡ 52
@@ -76,58 +76,58 @@ enum-known-dose : tie.Need-enum_known-dose
 enum-known-dose c = search rules
 
 shared-slice-read-lay-field : tie.Need-bounds-keys-37
-shared-slice-read-lay-field c = omega (arith, read_at c.before.before.before.before.before.before.before.before.before.before.before.before)
+shared-slice-read-lay-field c = omega (arith, read_at c.before.before.before.before.before.before.before.before.before.before)
 
 lay-field-requires : tie.Need-lay_field-a-requires
 lay-field-requires c κs =
-    let D = c.before.before.before.before.before.before.before in
-    let S = D.before.before.before.before.before in
+    let D = c.before.before.before.before.before.before in
+    let S = D.before.before.before.before in
     let x = times D in
     ((times_inside (length S.args.text.now) x (inside D)).0, rw (dose_names S.args.keys.now S.requires.0).0 (going_fits (going_start (fit D)) (part S (bytes "m") x.morning) (part S (bytes "d") x.midday ++ (part S (bytes "v") x.evening ++ part S (bytes "h") x.night)) refl))
 
 shared-slice-read-lay-field-2 : tie.Need-bounds-keys-38
-shared-slice-read-lay-field-2 c = omega (arith, read_at c.before.before.before.before.before.before.before.before.before.before.before.before.before.before.before.before.before)
+shared-slice-read-lay-field-2 c = omega (arith, read_at c.before.before.before.before.before.before.before.before.before.before.before.before.before.before.before)
 
 lay-field-requires-2 : tie.Need-lay_field-b-requires
 lay-field-requires-2 c κs =
     let F = c.before.before.before.before in
-    let D = F.before.before.before.before.before.before.before.before in
-    let S = D.before.before.before.before.before in
+    let D = F.before.before.before.before.before.before.before in
+    let S = D.before.before.before.before in
     let x = times D in
     ((times_inside (length S.args.text.now) x (inside D)).1, rw (dose_names S.args.keys.now S.requires.0).1 (going_fits (one_in F) (part S (bytes "d") x.midday) (part S (bytes "v") x.evening ++ part S (bytes "h") x.night) refl))
 
 shared-slice-read-lay-field-3 : tie.Need-bounds-keys-39
-shared-slice-read-lay-field-3 c = omega (arith, read_at c.before.before.before.before.before.before.before.before.before.before.before.before.before.before.before.before.before.before.before.before.before.before)
+shared-slice-read-lay-field-3 c = omega (arith, read_at c.before.before.before.before.before.before.before.before.before.before.before.before.before.before.before.before.before.before.before.before)
 
 lay-field-requires-3 : tie.Need-lay_field-c-requires
 lay-field-requires-3 c κs =
     let F = c.before.before.before.before in
-    let D = F.before.before.before.before.before.before.before.before.before.before.before.before.before in
-    let S = D.before.before.before.before.before in
+    let D = F.before.before.before.before.before.before.before.before.before.before.before.before in
+    let S = D.before.before.before.before in
     let x = times D in
     ((times_inside (length S.args.text.now) x (inside D)).2, rw (dose_names S.args.keys.now S.requires.0).2 (going_fits (two_in F) (part S (bytes "v") x.evening) (part S (bytes "h") x.night) refl))
 
 shared-slice-read-lay-field-4 : tie.Need-bounds-keys-40
-shared-slice-read-lay-field-4 c = omega (arith, read_at c.before.before.before.before.before.before.before.before.before.before.before.before.before.before.before.before.before.before.before.before.before.before.before.before.before.before.before)
+shared-slice-read-lay-field-4 c = omega (arith, read_at c.before.before.before.before.before.before.before.before.before.before.before.before.before.before.before.before.before.before.before.before.before.before.before.before.before)
 
 lay-field-requires-4 : tie.Need-lay_field-requires
 lay-field-requires-4 c κs =
     let F = c.before.before.before.before in
-    let D = F.before.before.before.before.before.before.before.before.before.before.before.before.before.before.before.before.before.before in
-    let S = D.before.before.before.before.before in
+    let D = F.before.before.before.before.before.before.before.before.before.before.before.before.before.before.before.before.before in
+    let S = D.before.before.before.before in
     ((times_inside (length S.args.text.now) (times D) (inside D)).3, rw (dose_names S.args.keys.now S.requires.0).3 (last_fits (three-in F)))
 
 enum-known-dose-2 : tie.Need-enum_known-dose-in-Free-1
 enum-known-dose-2 c = search rules
 
 shared-slice-read-lay-field-5 : tie.Need-bounds-keys-41
-shared-slice-read-lay-field-5 c = omega (arith, read_at c.before.before.before.before.before.before.before.before)
+shared-slice-read-lay-field-5 c = omega (arith, read_at c.before.before.before.before.before.before)
 
 lay-field-requires-5 : tie.Need-lay_field-requires-in-Free
 lay-field-requires-5 c κs =
-    let D = c.before.before.before in
-    let S = D.before.before.before.before.before in
-    (ap (dose_within (length S.args.text.now)) (sym D.dose-in-Free-1.given.1) ∙ S.requires.1, rw (dose_names S.args.keys.now S.requires.0).4 (free-fits D).inside)
+    let D = c.before.before in
+    let S = D.before.before.before.before in
+    (ap (dose_within (length S.args.text.now)) (sym D.in-Free.is) ∙ S.requires.1, rw (dose_names S.args.keys.now S.requires.0).4 (free-fits D).inside)
 
 enum_told : tie.Need-enum_told-1
 enum_told c = search rules
@@ -138,9 +138,9 @@ same_length c = search rules
 returns : tie.Need-returns-in-Scheme
 returns c =
     let F = c.before.before in
-    let D = F.before.before.before.before.before.before.before.before.before.before.before.before.before.before.before.before.before.before.before.before.before.before.before in
-    let S = D.before.before.before.before.before in
-    wrote_as (ap (λ (d : Dose). dose_text (paper_dose S.args.text.now d)) D.dose-1.given.1) (last_on (three-in F.before.before.before.before.before) (fit D) (as-named (get_or S.args.keys.now 40 0) (bytes "h") (shown S.args.text.now (paper_span (times D).night)) (dose_names S.args.keys.now S.requires.0).3 F.lay_field.ensures))
+    let D = F.before.before.before.before.before.before.before.before.before.before.before.before.before.before.before.before.before.before.before.before.before.before in
+    let S = D.before.before.before.before in
+    wrote_as (ap (λ (d : Dose). dose_text (paper_dose S.args.text.now d)) D.in-Scheme.is) (last_on (three-in F.before.before.before.before.before) (fit D) (as-named (get_or S.args.keys.now 40 0) (bytes "h") (shown S.args.text.now (paper_span (times D).night)) (dose_names S.args.keys.now S.requires.0).3 F.lay_field.ensures))
 
 same-length-2 : tie.Need-shape_of-out-in-Free
 same-length-2 c = search rules
@@ -148,12 +148,12 @@ same-length-2 c = search rules
 returns-2 : tie.Need-returns-in-Free
 returns-2 c =
     let F = c.before.before in
-    let D = F.before.before.before.before in
-    let S = D.before.before.before.before.before in
-    wrote_as (ap (λ (d : Dose). dose_text (paper_dose S.args.text.now d)) D.dose-in-Free-1.given.1) (as-named (get_or S.args.keys.now 41 0) (bytes "t") (shown S.args.text.now (paper_span D.dose-in-Free-1.given.0.0)) (dose_names S.args.keys.now S.requires.0).4 F.lay_field-in-Free.ensures)
+    let D = F.before.before.before in
+    let S = D.before.before.before.before in
+    wrote_as (ap (λ (d : Dose). dose_text (paper_dose S.args.text.now d)) D.in-Free.is) (as-named (get_or S.args.keys.now 41 0) (bytes "t") (shown S.args.text.now (paper_span D.in-Free.s)) (dose_names S.args.keys.now S.requires.0).4 F.lay_field-in-Free.ensures)
 
 returns-3 : tie.Need-returns-in-Unstated
-returns-3 c = let S = c.before.before.before.before.before in wrote_as (ap (λ (d : Dose). dose_text (paper_dose S.args.text.now d)) c.enum_told-1.given.1) (none_written S.args.out.now S.args.at)
+returns-3 c = let S = c.before.before.before.before in wrote_as (ap (λ (d : Dose). dose_text (paper_dose S.args.text.now d)) c.in-Unstated.is) (none_written S.args.out.now S.args.at)
 
 pub lay_dose_spec : {M : Type 1} → statement M
 lay_dose_spec =

@@ -96,6 +96,12 @@ returns c = let L = c.before.before in wrote_as (no_rows L.before.before.before.
 sub-lay : tie.Need-slice_bounds-lay-count
 sub-lay c = long c.before
 
+part-lay-start : tie.Need-slice_bounds-lay-start
+part-lay-start c = long c.before
+
+part-lay-end : tie.Need-slice_bounds-lay-end-then-heading
+part-lay-end c = search rules
+
 lay-requires-2 : tie.Need-lay-a-requires
 lay-requires-2 c κs = let I = c.before.before in going_fits (going_start (heading-fits I)) (part I) (bytes "</S></MP>") refl
 
@@ -131,6 +137,8 @@ lay_rows_spec =
     same_length
     returns
     sub-lay
+    part-lay-start
+    part-lay-end
     lay-requires-2
     lay-requires-3
     same-length-2
