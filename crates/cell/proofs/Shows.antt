@@ -252,10 +252,10 @@ module _ (rows : List ℕ) (count : ℕ) (t k : List ℕ) (row n i : ℕ) where
 
 -- the empty beginning of a slice
 abbrev pub start : Lent → Slice
-start t = record { begins = t.ptr; bytes = [] }
+start t = record { begins = t.ref_ptr; bytes = [] }
 
 start_is : (t : Lent) → start t ≡ part t 0 0
-start_is t = ap (λ (o : ℕ). record { begins = (t.ptr.0, o); bytes = [] }) (sym (zero-add t.ptr.1))
+start_is t = ap (λ (o : ℕ). record { begins = (t.ref_ptr.0, o); bytes = [] }) (sym (zero-add t.ref_ptr.1))
 
 module _ (rows : List ℕ) (count : ℕ) (t k : Lent) (row n i : ℕ) where
   -- what the answer is held against

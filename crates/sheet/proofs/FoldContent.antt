@@ -79,6 +79,35 @@ Calm [] = Unit {0}
 Calm (F ∷ st) = (is F.kind M ≡ false) × Calm st
 
 not_w : (K k : Kind) → Kid K k → is K M ≡ false → is k W ≡ false
+not_w X k x11 e = elim x11 [ ]
+not_w R k x10 e = elim x10 [ ]
+not_w W k x9 e = elim x9 [ ]
+not_w M X x18 e = elim x18 [ ]
+not_w M R x17 e = elim x17 [ ]
+not_w M M x16 e = elim x16 [ ]
+not_w M S x15 e = elim x15 [ ]
+not_w M O x14 e = elim x14 [ ]
+not_w M A x13 e = elim x13 [ ]
+not_w M P x12 e = elim x12 [ ]
+not_w M MP x11 e = elim x11 [ ]
+not_w M unknown x10 e = elim x10 [ ]
+not_w S W x15 e = elim x15 [ ]
+not_w S S x14 e = elim x14 [ ]
+not_w S O x13 e = elim x13 [ ]
+not_w S A x12 e = elim x12 [ ]
+not_w S P x11 e = elim x11 [ ]
+not_w S MP x10 e = elim x10 [ ]
+not_w S unknown x9 e = elim x9 [ ]
+not_w O k x6 e = elim x6 [ ]
+not_w A k x5 e = elim x5 [ ]
+not_w P k x4 e = elim x4 [ ]
+not_w MP X x10 e = elim x10 [ ]
+not_w MP R x9 e = elim x9 [ ]
+not_w MP W x8 e = elim x8 [ ]
+not_w MP M x7 e = elim x7 [ ]
+not_w MP MP x6 e = elim x6 [ ]
+not_w MP unknown x5 e = elim x5 [ ]
+not_w unknown k x'' e = elim x'' [ ]
 not_w MP P as_p e = refl
 not_w MP A as_a e = refl
 not_w MP O as_o e = refl
@@ -103,6 +132,7 @@ calm_mp : (i : ℕ) (js : List Kind) (vs : Slots) (us : List Slots) (st : Stack)
 calm_mp i js vs us st sh = rw (alone i js vs us st sh) tt
 
 calm_s : (i : ℕ) (js : List Kind) (vs : Slots) (us : List Slots) (st : Stack) → Shape (box S i js vs us ∷ st) → Calm st
+calm_s i js vs us [] x' = elim x' [ ]
 calm_s i js vs us (G ∷ st) (in_it as_s sh) = (refl, calm_mp G.at G.seen G.slots G.ws st sh)
 
 -- ---- the rows
@@ -133,6 +163,35 @@ row_start : (K k : Kind) (i j : ℕ) (js : List Kind) (us : Slots) (xs : List Sl
     → rows_of ys ≡ pend k (frame k i (slots_of (fields_of k) l)) (note (box K j js us xs) k (slots_of (fields_of k) l) ∷ st) zs ++ rs
     → rows_of ((if (early k) (item k (slots_of (fields_of k) l) [] ∷ []) []) ++ ys)
     ≡ pend K (box K j js us xs) st (if (is k W) (slots_of (fields_of W) l ∷ zs) []) ++ (row_of (item k (slots_of (fields_of k) l) zs) ++ rs)
+row_start X k i j js us xs st l ys rs zs x11 h = elim x11 [ ]
+row_start R k i j js us xs st l ys rs zs x10 h = elim x10 [ ]
+row_start W k i j js us xs st l ys rs zs x9 h = elim x9 [ ]
+row_start M X i j js us xs st l ys rs zs x18 h = elim x18 [ ]
+row_start M R i j js us xs st l ys rs zs x17 h = elim x17 [ ]
+row_start M M i j js us xs st l ys rs zs x16 h = elim x16 [ ]
+row_start M S i j js us xs st l ys rs zs x15 h = elim x15 [ ]
+row_start M O i j js us xs st l ys rs zs x14 h = elim x14 [ ]
+row_start M A i j js us xs st l ys rs zs x13 h = elim x13 [ ]
+row_start M P i j js us xs st l ys rs zs x12 h = elim x12 [ ]
+row_start M MP i j js us xs st l ys rs zs x11 h = elim x11 [ ]
+row_start M unknown i j js us xs st l ys rs zs x10 h = elim x10 [ ]
+row_start S W i j js us xs st l ys rs zs x15 h = elim x15 [ ]
+row_start S S i j js us xs st l ys rs zs x14 h = elim x14 [ ]
+row_start S O i j js us xs st l ys rs zs x13 h = elim x13 [ ]
+row_start S A i j js us xs st l ys rs zs x12 h = elim x12 [ ]
+row_start S P i j js us xs st l ys rs zs x11 h = elim x11 [ ]
+row_start S MP i j js us xs st l ys rs zs x10 h = elim x10 [ ]
+row_start S unknown i j js us xs st l ys rs zs x9 h = elim x9 [ ]
+row_start O k i j js us xs st l ys rs zs x6 h = elim x6 [ ]
+row_start A k i j js us xs st l ys rs zs x5 h = elim x5 [ ]
+row_start P k i j js us xs st l ys rs zs x4 h = elim x4 [ ]
+row_start MP X i j js us xs st l ys rs zs x10 h = elim x10 [ ]
+row_start MP R i j js us xs st l ys rs zs x9 h = elim x9 [ ]
+row_start MP W i j js us xs st l ys rs zs x8 h = elim x8 [ ]
+row_start MP M i j js us xs st l ys rs zs x7 h = elim x7 [ ]
+row_start MP MP i j js us xs st l ys rs zs x6 h = elim x6 [ ]
+row_start MP unknown i j js us xs st l ys rs zs x5 h = elim x5 [ ]
+row_start unknown k i j js us xs st l ys rs zs x'' h = elim x'' [ ]
 row_start MP P i j js us xs st l ys rs zs as_p h = h
 row_start MP A i j js us xs st l ys rs zs as_a h = h
 row_start MP O i j js us xs st l ys rs zs as_o h = h

@@ -57,6 +57,31 @@ past_cons q k js = at (later q k) (is k q) (some_of (later q) js) (how_many q js
 
 -- one kind stands not before another exactly if its rank is not below
 ranks : (q k : Kind) → Single q → Kid MP k → (later q k || is k q) ≡ leb (rank_of q) (rank_of k)
+ranks X k x11 _ = elim x11 [ ]
+ranks R k x10 _ = elim x10 [ ]
+ranks W k x9 _ = elim x9 [ ]
+ranks M k x8 _ = elim x8 [ ]
+ranks S k x7 _ = elim x7 [ ]
+ranks O X _ x14 = elim x14 [ ]
+ranks O R _ x13 = elim x13 [ ]
+ranks O W _ x12 = elim x12 [ ]
+ranks O M _ x11 = elim x11 [ ]
+ranks O MP _ x10 = elim x10 [ ]
+ranks O unknown _ x9 = elim x9 [ ]
+ranks A X _ x13 = elim x13 [ ]
+ranks A R _ x12 = elim x12 [ ]
+ranks A W _ x11 = elim x11 [ ]
+ranks A M _ x10 = elim x10 [ ]
+ranks A MP _ x9 = elim x9 [ ]
+ranks A unknown _ x8 = elim x8 [ ]
+ranks P X _ x12 = elim x12 [ ]
+ranks P R _ x11 = elim x11 [ ]
+ranks P W _ x10 = elim x10 [ ]
+ranks P M _ x9 = elim x9 [ ]
+ranks P MP _ x8 = elim x8 [ ]
+ranks P unknown _ x7 = elim x7 [ ]
+ranks MP k x3 _ = elim x3 [ ]
+ranks unknown k x'' _ = elim x'' [ ]
 ranks P P one_p as_p = refl
 ranks P A one_p as_a = refl
 ranks P O one_p as_o = refl
@@ -82,6 +107,12 @@ leb_either i n k h = at (leb i k) refl
         below false e g = refl
 
 rank_small : (k : Kind) → Kid MP k → rank_of k ≤ 4
+rank_small X x6 = elim x6 [ ]
+rank_small R x5 = elim x5 [ ]
+rank_small W x4 = elim x4 [ ]
+rank_small M x3 = elim x3 [ ]
+rank_small MP x'' = elim x'' [ ]
+rank_small unknown x' = elim x' [ ]
 rank_small P as_p = omega arith
 rank_small A as_a = omega arith
 rank_small O as_o = omega arith
@@ -154,6 +185,35 @@ full_is t F st k c sh H = at F.kind k F.at F.seen F.slots F.ws st c sh H
   where
     at : (K k : Kind) (j : ℕ) (js : List Kind) (vs : Slots) (us : List Slots) (st : Stack) → Kid K k → Shape (box K j js vs us ∷ st) → Sim t (box K j js vs us) st
         → full t k ≡ misplaced (box K j js vs us ∷ st) k
+    at X _ j js vs us st x12 sh H = elim x12 [ ]
+    at R _ j js vs us st x11 sh H = elim x11 [ ]
+    at W _ j js vs us st x10 sh H = elim x10 [ ]
+    at M X j js vs us st x20 sh H = elim x20 [ ]
+    at M R j js vs us st x19 sh H = elim x19 [ ]
+    at M M j js vs us st x18 sh H = elim x18 [ ]
+    at M S j js vs us st x17 sh H = elim x17 [ ]
+    at M O j js vs us st x16 sh H = elim x16 [ ]
+    at M A j js vs us st x15 sh H = elim x15 [ ]
+    at M P j js vs us st x14 sh H = elim x14 [ ]
+    at M MP j js vs us st x13 sh H = elim x13 [ ]
+    at M unknown j js vs us st x12 sh H = elim x12 [ ]
+    at S W j js vs us st x17 sh H = elim x17 [ ]
+    at S S j js vs us st x16 sh H = elim x16 [ ]
+    at S O j js vs us st x15 sh H = elim x15 [ ]
+    at S A j js vs us st x14 sh H = elim x14 [ ]
+    at S P j js vs us st x13 sh H = elim x13 [ ]
+    at S MP j js vs us st x12 sh H = elim x12 [ ]
+    at S unknown j js vs us st x11 sh H = elim x11 [ ]
+    at O _ j js vs us st x7 sh H = elim x7 [ ]
+    at A _ j js vs us st x6 sh H = elim x6 [ ]
+    at P _ j js vs us st x5 sh H = elim x5 [ ]
+    at MP X j js vs us st x12 sh H = elim x12 [ ]
+    at MP R j js vs us st x11 sh H = elim x11 [ ]
+    at MP W j js vs us st x10 sh H = elim x10 [ ]
+    at MP M j js vs us st x9 sh H = elim x9 [ ]
+    at MP MP j js vs us st x8 sh H = elim x8 [ ]
+    at MP unknown j js vs us st x7 sh H = elim x7 [ ]
+    at unknown _ j js vs us st x3 sh H = elim x3 [ ]
     at MP P j js vs us st as_p sh H = sym ((head_mp t j js vs us st sh H).0.order P one_p)
     at MP A j js vs us st as_a sh H = sym ((head_mp t j js vs us st sh H).0.order A one_a)
     at MP O j js vs us st as_o sh H = sym ((head_mp t j js vs us st sh H).0.order O one_o)
@@ -321,6 +381,13 @@ unfolding opened needs_w
 root_sim k i l e = rw (is_eq k MP e) (record { inner = refl; head = (record { small = omega arith; order = none; person = refl; author = refl }, refl); med = refl })
   where
     none : (q : Kind) → Single q → past q [] ≡ leb (rank_of q) 0
+    none X x7 = elim x7 [ ]
+    none R x6 = elim x6 [ ]
+    none W x5 = elim x5 [ ]
+    none M x4 = elim x4 [ ]
+    none S x3 = elim x3 [ ]
+    none MP x'' = elim x'' [ ]
+    none unknown x' = elim x' [ ]
     none P one_p = refl
     none A one_a = refl
     none O one_o = refl

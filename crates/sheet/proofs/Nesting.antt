@@ -35,6 +35,15 @@ pub data Shape : Stack → Type 0 where
       → Kid K k → Shape (box K j ks ys xs ∷ st) → Shape (box k i js vs us ∷ box K j ks ys xs ∷ st)
 
 shape_note : (K k : Kind) (i : ℕ) (js : List Kind) (vs ys : Slots) (us : List Slots) (st : Stack) → Shape (box K i js vs us ∷ st) → Shape (note (box K i js vs us) k ys ∷ st)
+shape_note X k i js vs ys us [] x10 = elim x10 [ ]
+shape_note R k i js vs ys us [] x9 = elim x9 [ ]
+shape_note W k i js vs ys us [] x8 = elim x8 [ ]
+shape_note M k i js vs ys us [] x7 = elim x7 [ ]
+shape_note S k i js vs ys us [] x6 = elim x6 [ ]
+shape_note O k i js vs ys us [] x5 = elim x5 [ ]
+shape_note A k i js vs ys us [] x4 = elim x4 [ ]
+shape_note P k i js vs ys us [] x3 = elim x3 [ ]
+shape_note unknown k i js vs ys us [] x'' = elim x'' [ ]
 shape_note MP k i js vs ys us [] top = top
 shape_note K k i js vs ys us (F ∷ st) (in_it c sh) = in_it c sh
 

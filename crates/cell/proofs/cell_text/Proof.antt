@@ -29,18 +29,18 @@ refused-at : (A : tie.After-cell_answer-a) → A.cell_answer-a.result ≡ NoCell
 refused-at A e = ap values_of (sym e) ∙ A.cell_answer-a.ensures
 
 -- what the cell shows
-abbrev shown-at : tie.In-Shown-2 → Told.Shown
+abbrev shown-at : tie.In-Shown → Told.Shown
 shown-at K = K.a.given.0.0
 
 -- they are the answer's
-values-are : (K : tie.In-Shown-2) → values_of (Shown (shown-at K)) ≡ values-at K.before.before
+values-are : (K : tie.In-Shown) → values_of (Shown (shown-at K)) ≡ values-at K.before.before
 values-are K = ap values_of (sym K.in-Shown.is) ∙ K.before.cell_answer-a.ensures
 
 -- the part lies in the slice of its source, and is the text
-lies_at : (K : tie.In-Shown-2) (from : Source) → (shown-at K).source ≡ from → let A = K.before in (shown-at K).at + (shown-at K).len ≤ length (buffer from (text_at A).now (catalogue-at A).now)
+lies_at : (K : tie.In-Shown) (from : Source) → (shown-at K).source ≡ from → let A = K.before in (shown-at K).at + (shown-at K).len ≤ length (buffer from (text_at A).now (catalogue-at A).now)
 lies_at K = let a = K.before.before.before.before.before.args in part_lies a.rows.now a.count a.text a.catalogue a.row a.field a.which (shown-at K) (values-are K)
 
-part_at : (K : tie.In-Shown-2) (from : Source) → (shown-at K).source ≡ from
+part_at : (K : tie.In-Shown) (from : Source) → (shown-at K).source ≡ from
     → let A = K.before in part (buffer from (text_at A) (catalogue-at A)) (shown-at K).at ((shown-at K).at + (shown-at K).len - (shown-at K).at) ≡ text_in (text_at A) (catalogue-at A) (values-at A)
 part_at K from e =
     let A = K.before in

@@ -25,10 +25,10 @@ sub-t8 c =
     let a = c.before.before.before.args in
     let v = drop a.at a.buffer.now in
     let near = (begins_near a.limit v (shown_of a.limit v) (begins a.limit v)).0 in
-    omega (arith, near, c.Shown-of.ensures, c.before.if-len-limit.false)
+    omega (arith, near, c.shown_of-shown.ensures, c.before.if-len-limit.false)
 
 returns-2 : tie.Need-returns
-returns-2 c = rw (c.Shown-of.ensures, lt-leb _ _ c.before.if-len-limit.false)
+returns-2 c = rw (c.shown_of-shown.ensures, lt-leb _ _ c.before.if-len-limit.false)
 
 pub cut_spec : {M : Type 1} → statement M
 cut_spec = tie.close (tie.spec whole-requires returns shown-of-requires sub-t8 returns-2)

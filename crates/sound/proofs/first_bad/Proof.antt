@@ -53,7 +53,7 @@ returns c =
     let I = R.before.before.before in
     let L = I.before in
     let a = L.before.before.before.before.args in
-    sym (L.loop-i.invariant.1 ∙ bad_here a.text.now a.rows.now a.n L.loop-i.i I.loop-i-test.true _ (R.record_sound.ensures ∙ part_sound a.text.now a.rows.now L.loop-i.i) (not-true _ c.if-not-record_sound.true))
+    sym (L.loop-i.invariant.1 ∙ bad_here a.text.now a.rows.now a.n L.loop-i.i I.loop-i-test.true _ (R.record_sound.ensures ∙ part_sound a.text.now a.rows.now L.loop-i.i) c.if-not-record_sound.true)
 
 add-i : tie.Need-overflow_add-i invariant-loop decreases-loop
 add-i c = search rules
@@ -67,7 +67,7 @@ loop-again c =
     let I = R.before.before.before in
     let L = I.before in
     let a = L.before.before.before.before.args in
-    (search rules, L.loop-i.invariant.1 ∙ sound_here a.text.now a.rows.now a.n L.loop-i.i I.loop-i-test.true _ (R.record_sound.ensures ∙ part_sound a.text.now a.rows.now L.loop-i.i) (not-false _ c.if-not-record_sound.false))
+    (search rules, L.loop-i.invariant.1 ∙ sound_here a.text.now a.rows.now a.n L.loop-i.i I.loop-i-test.true _ (R.record_sound.ensures ∙ part_sound a.text.now a.rows.now L.loop-i.i) c.if-not-record_sound.false)
 
 returns-2 : tie.Need-returns invariant-loop decreases-loop
 returns-2 c =

@@ -16,7 +16,7 @@ use Rattle.collector.proofs.adding.add.Tie as tie
 
 -- the page lies in the buffer
 lies_at : (c : tie.Else-not-lies_in) → let a = c.before.before.before.args in leb (a.start + a.len) (length a.buffer.now) ≡ true
-lies_at c = sym c.before.lies_in.ensures ∙ not-false _ c.if-not-lies_in.false
+lies_at c = sym c.before.lies_in.ensures ∙ c.if-not-lies_in.false
 
 inside-at : (c : tie.Else-not-lies_in) → let a = c.before.before.before.args in a.start + a.len ≤ length a.buffer.now
 inside-at c = let a = c.before.before.before.args in leb-true (a.start + a.len) (length a.buffer.now) (lies_at c)
@@ -28,7 +28,7 @@ unchanged-requires : tie.Need-unchanged-requires
 unchanged-requires c κs = search rules
 
 returns : tie.Need-returns-then-not-lies_in
-returns c = promised_same _ _ _ _ _ c.unchanged.ensures.0 c.unchanged.ensures.1 (outside _ _ _ _ (sym c.before.before.lies_in.ensures ∙ not-true _ c.before.if-not-lies_in.true))
+returns c = promised_same _ _ _ _ _ c.unchanged.ensures.0 c.unchanged.ensures.1 (outside _ _ _ _ (sym c.before.before.lies_in.ensures ∙ c.before.if-not-lies_in.true))
 
 add-add-bytes : tie.Need-overflow_add-start
 add-add-bytes c = omega (arith, inside-at c)

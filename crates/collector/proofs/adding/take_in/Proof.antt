@@ -28,18 +28,18 @@ says_at s = says _ s.requires
 
 -- the page agrees with the first page
 alike_at : (c : tie.Else-not-agrees_first) → let a = (start_of c.before).args in agrees_first a.c.pages a.c.lens a.c.first (content_of (tags_at a.page.now 0)) ≡ true
-alike_at c = sym c.before.agrees_first.ensures ∙ not-false _ c.if-not-agrees_first.false
+alike_at c = sym c.before.agrees_first.ensures ∙ c.if-not-agrees_first.false
 
 -- where the test of the first page was passed, behind the page's number
 abbrev passed : tie.After-page_at-at → tie.Else-not-agrees_first
 passed c = c.before.before
 
 -- the number that the page says
-number_at : (c : tie.After-page_at-at) → let a = (start_of (passed c).before).args in c.before.Numbers-of.result.no ≡ (content_of (tags_at a.page.now 0)).no
-number_at c = c.before.Numbers-of.ensures.0
+number_at : (c : tie.After-page_at-at) → let a = (start_of (passed c).before).args in c.before.numbers_of-said.result.no ≡ (content_of (tags_at a.page.now 0)).no
+number_at c = c.before.numbers_of-said.ensures.0
 
 -- the place of the page that is kept for it
-place_at : (c : tie.In-Here) → let P = c.before in Place (start_of (passed P).before).args.c.lens P.before.Numbers-of.result.no c.in-Here.start c.in-Here.len
+place_at : (c : tie.In-Here) → let P = c.before in Place (start_of (passed P).before).args.c.lens P.before.numbers_of-said.result.no c.in-Here.start c.in-Here.len
 place_at c = place _ _ _ _ (sym c.in-Here.is ∙ c.before.page_at-at.ensures)
 
 -- whether its bytes are the page's
@@ -63,7 +63,7 @@ unchanged-requires c κs = search rules
 returns : tie.Need-returns-then-not-agrees_first
 returns c =
     let A = c.before.before in
-    promised_same _ _ _ _ _ c.unchanged.ensures.0 c.unchanged.ensures.1 (takes_other (start_of A).args.c _ _ (sym A.agrees_first.ensures ∙ not-true _ c.before.if-not-agrees_first.true))
+    promised_same _ _ _ _ _ c.unchanged.ensures.0 c.unchanged.ensures.1 (takes_other (start_of A).args.c _ _ (sym A.agrees_first.ensures ∙ c.before.if-not-agrees_first.true))
 
 numbers-of-requires : tie.Need-numbers_of-said-requires
 numbers-of-requires c κs = search rules
@@ -83,7 +83,7 @@ add-spells c = omega (arith, (place_at c.before).inside)
 spells-requires : tie.Need-spells-requires
 spells-requires c κs =
     let K = c.before in
-    (omega arith, omega (arith, (place_at K).inside, long-at (start_of (passed K.before.before.before).before)))
+    (omega arith, omega (arith, (place_at K).inside, long-at (start_of (passed K.before).before)))
 
 unchanged-requires-2 : tie.Need-unchanged-requires-then-spells
 unchanged-requires-2 c κs = search rules
@@ -147,7 +147,7 @@ returns-4 c =
     let a = (start_of (passed P).before).args in
     let e : here a.c.lens (content_of (tags_at a.page.now 0)).no ≡ false = ap (here a.c.lens) (sym (number_at P)) ∙ told_missing _ _ _ (sym N.before.in_default.is ∙ P.page_at-at.ensures) in
     takes_new a.c a.page.now (content_of (tags_at a.page.now 0)) (alike_at (passed P)) e _
-    (keeps a.c a.page.now (content_of (tags_at a.page.now 0)) _ _ _ _ (number_at P) P.before.Numbers-of.ensures.1 N.first_with-first.ensures Y.lay.ensures.1)
+    (keeps a.c a.page.now (content_of (tags_at a.page.now 0)) _ _ _ _ (number_at P) P.before.numbers_of-said.ensures.1 N.first_with-first.ensures Y.lay.ensures.1)
 
 pub take_in_spec : {M : Type 1} → statement M
 take_in_spec =

@@ -40,7 +40,7 @@ long-at s = search rules
 
 -- the lent room is enough
 roomy-at : (c : tie.Else-not-room_fits invariant-loop decreases-loop) → let a = (start_of c).args in roomy (rows_lent (length a.rows.now)) (length a.text.now) ≡ true
-roomy-at c = sym c.before.room_fits.ensures ∙ not-false _ c.if-not-room_fits.false
+roomy-at c = sym c.before.room_fits.ensures ∙ c.if-not-room_fits.false
 
 -- a refusal
 refuse : (s : tie.Start invariant-loop decreases-loop) (n k i : ℕ) → collected s.args.rows.now s.args.text.now s.args.c ≡ Paper.refusal n k i → (r : Reading) → numbers_of r.answer ≡ numbers n k i → r.plan ≡ empty_plan
@@ -61,7 +61,7 @@ returns : tie.Need-returns-then-not-room_fits invariant-loop decreases-loop
 returns c =
     let R = c.before.before in
     let s = R.before.before.before in
-    refuse s 1 0 0 (too_small _ _ _ (sym R.room_fits.ensures ∙ not-true _ c.before.if-not-room_fits.true)) _ refl c.empty.ensures
+    refuse s 1 0 0 (too_small _ _ _ (sym R.room_fits.ensures ∙ c.before.if-not-room_fits.true)) _ refl c.empty.ensures
 
 count-requires : tie.Need-count-z-requires invariant-loop decreases-loop
 count-requires c κs = search rules

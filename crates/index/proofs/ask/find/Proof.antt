@@ -21,7 +21,7 @@ use Rattle.index.proofs.ask.find.Tie as tie
 
 -- there are so many rows
 fit_at : (c : tie.Else-not-rows_lent) → let a = c.before.before.before.before.args in rows_fit a.rows.now a.count ≡ true
-fit_at c = sym c.before.rows_lent.ensures ∙ not-false _ c.if-not-rows_lent.false
+fit_at c = sym c.before.rows_lent.ensures ∙ c.if-not-rows_lent.false
 
 few-at : (c : tie.Else-not-rows_lent) → let a = c.before.before.before.before.args in (a.count ≤ 256) × (a.count * 48 ≤ length a.rows.now)
 few-at c =
@@ -34,7 +34,7 @@ few-at c =
 -- the pairs are the index of the rows
 tested_at : (c : tie.Else-not-is_index) → let a = c.before.before.before.before.before.before.before.args in
     same_pairs (pairs_in a.length a.index.now) (index_of (rows_in a.count a.rows.now)) ≡ true
-tested_at c = sym c.before.is_index.ensures ∙ not-false _ c.if-not-is_index.false
+tested_at c = sym c.before.is_index.ensures ∙ c.if-not-is_index.false
 
 rows-lent-requires : tie.Need-rows_lent-requires
 rows-lent-requires c κs = search rules
@@ -43,7 +43,7 @@ returns : tie.Need-returns-then-not-rows_lent
 returns c =
     let R = c.before in
     let a = R.before.before.before.args in
-    bad_rows a.rows.now a.count a.index.now a.length a.number (sym R.rows_lent.ensures ∙ not-true _ c.if-not-rows_lent.true)
+    bad_rows a.rows.now a.count a.index.now a.length a.number (sym R.rows_lent.ensures ∙ c.if-not-rows_lent.true)
 
 returns-2 : tie.Need-returns-then-len-index
 returns-2 c =
@@ -60,7 +60,7 @@ returns-3 c =
     let I = c.before in
     let E = I.before in
     let a = E.before.before.before.before.before.args in
-    other_index a.rows.now a.count a.index.now a.length a.number (fit_at E.before) E.if-len-index.false (sym I.is_index.ensures ∙ not-true _ c.if-not-is_index.true)
+    other_index a.rows.now a.count a.index.now a.length a.number (fit_at E.before) E.if-len-index.false (sym I.is_index.ensures ∙ c.if-not-is_index.true)
 
 ahead-of-requires : tie.Need-ahead_of-at-requires
 ahead-of-requires c κs =

@@ -38,7 +38,7 @@ decreases-loop rows n index len i₀ i = len - i
 -- the row of pair i holds its number
 row_at : (c : tie.Else-not-row_right invariant-loop decreases-loop) → let L = c.before.before.before in let a = L.before.before.before.before.before.args in
     held (rows_in a.n a.rows.now) (pair_at a.index.now L.loop-i.i) ≡ true
-row_at c = sym c.before.row_right.ensures ∙ not-false _ c.if-not-row_right.false
+row_at c = sym c.before.row_right.ensures ∙ c.if-not-row_right.false
 
 count-numbers-requires : tie.Need-count_numbers-requires invariant-loop decreases-loop
 count-numbers-requires c κs = search rules
@@ -63,7 +63,7 @@ returns-2 c =
     let R = c.before in
     let L = R.before.before in
     let a = L.before.before.before.before.before.args in
-    let e = sym R.row_right.ensures ∙ not-true _ c.if-not-row_right.true in
+    let e = sym R.row_right.ensures ∙ c.if-not-row_right.true in
     sym (wrong_row (rows_in a.n a.rows.now) a.index.now a.len L.loop-i.i R.before.loop-i-test.true L.loop-i.invariant e)
 
 in-place-requires : tie.Need-in_place-requires invariant-loop decreases-loop
@@ -75,7 +75,7 @@ returns-3 c =
     let I = P.before.before.before in
     let L = I.before in
     let a = L.before.before.before.before.before.args in
-    let e = sym P.in_place.ensures ∙ not-true _ c.if-not-in_place.true in
+    let e = sym P.in_place.ensures ∙ c.if-not-in_place.true in
     sym (wrong-place (rows_in a.n a.rows.now) a.index.now a.len L.loop-i.i I.loop-i-test.true L.loop-i.invariant (row_at P.before) e)
 
 add-i : tie.Need-overflow_add-i invariant-loop decreases-loop
@@ -90,7 +90,7 @@ loop-again c =
     let I = P.before.before.before in
     let L = I.before in
     let a = L.before.before.before.before.before.args in
-    let e = sym P.in_place.ensures ∙ not-false _ c.if-not-in_place.false in
+    let e = sym P.in_place.ensures ∙ c.if-not-in_place.false in
     right (rows_in a.n a.rows.now) a.index.now a.len L.loop-i.i I.loop-i-test.true L.loop-i.invariant (row_at P.before) e
 
 returns-4 : tie.Need-returns invariant-loop decreases-loop

@@ -19,7 +19,7 @@ start c = c.before.before.before.before.before.before.before.before.before.befor
 
 -- the room for the index is enough
 roomy : (c : tie.After-read-reading) → true ≡ leb pair_room (pairs_lent (length (start c).args.index.now))
-roomy c = sym (not-false _ c.before.before.before.if-not-index_fits.false) ∙ c.before.before.before.before.index_fits.ensures
+roomy c = sym c.before.before.before.if-not-index_fits.false ∙ c.before.before.before.before.index_fits.ensures
 
 index-fits-requires : tie.Need-index_fits-requires
 index-fits-requires c κs = search rules
@@ -31,7 +31,7 @@ returns : tie.Need-returns-then-not-index_fits
 returns c =
     let F = c.before.before in
     let a = F.before.before.before.before.before.before.before.args in
-    too_small a.rows.now a.text.now a.index.now _ _ (sym (not-true _ c.before.if-not-index_fits.true) ∙ F.index_fits.ensures) c.no_room.ensures
+    too_small a.rows.now a.text.now a.index.now _ _ (sym c.before.if-not-index_fits.true ∙ F.index_fits.ensures) c.no_room.ensures
 
 read-requires : tie.Need-read-reading-requires
 read-requires c κs = search rules

@@ -39,15 +39,15 @@ fit : (H : tie.After-head_numbers-numbers) → let S = H.before.before.before in
 fit H = fits_as (ap print (head-is H)) (record { inside = H.before.before.before.requires.1 })
 
 -- those of P, A and O fit behind those of MP
-person-fits : (c : tie.After-mp_lines-a) → let H = c.before.before.before in let S = H.before.before.before in Fits c.mp_lines-a.new.0 c.mp_lines-a.result (print ((lines_of (bytes "MP.P.") 6 8 S.args.text.now 6 H.head_numbers-numbers.result) ++ ((lines_of (bytes "MP.A.") 14 10 S.args.text.now 22 H.head_numbers-numbers.result) ++ (lines_of (bytes "MP.O.") 24 7 S.args.text.now 42 H.head_numbers-numbers.result))))
+person-fits : (c : tie.After-mp_lines-a) → let H = c.before.before.before in let S = H.before.before.before in Fits c.mp_lines-a.new.out c.mp_lines-a.result (print ((lines_of (bytes "MP.P.") 6 8 S.args.text.now 6 H.head_numbers-numbers.result) ++ ((lines_of (bytes "MP.A.") 14 10 S.args.text.now 22 H.head_numbers-numbers.result) ++ (lines_of (bytes "MP.O.") 24 7 S.args.text.now 42 H.head_numbers-numbers.result))))
 person-fits c = let H = c.before.before.before in let S = H.before.before.before in other_lines (mp_lines S.args.patch S.args.text.now H.head_numbers-numbers.result) ((lines_of (bytes "MP.P.") 6 8 S.args.text.now 6 H.head_numbers-numbers.result) ++ ((lines_of (bytes "MP.A.") 14 10 S.args.text.now 22 H.head_numbers-numbers.result) ++ (lines_of (bytes "MP.O.") 24 7 S.args.text.now 42 H.head_numbers-numbers.result))) (fit H) c.mp_lines-a.ensures
 
 -- those of A and O behind those of P
-author-fits : (c : tie.After-fields-b) → let H = c.before.before.before.before.before.before.before.before.before.before in let S = H.before.before.before in Fits c.fields-b.new.0 c.fields-b.result (print ((lines_of (bytes "MP.A.") 14 10 S.args.text.now 22 H.head_numbers-numbers.result) ++ (lines_of (bytes "MP.O.") 24 7 S.args.text.now 42 H.head_numbers-numbers.result)))
+author-fits : (c : tie.After-fields-b) → let H = c.before.before.before.before.before.before.before.before.before.before in let S = H.before.before.before in Fits c.fields-b.new.out c.fields-b.result (print ((lines_of (bytes "MP.A.") 14 10 S.args.text.now 22 H.head_numbers-numbers.result) ++ (lines_of (bytes "MP.O.") 24 7 S.args.text.now 42 H.head_numbers-numbers.result)))
 author-fits c = let H = c.before.before.before.before.before.before.before.before.before.before in let S = H.before.before.before in other_lines (lines_of (bytes "MP.P.") 6 8 S.args.text.now 6 H.head_numbers-numbers.result) ((lines_of (bytes "MP.A.") 14 10 S.args.text.now 22 H.head_numbers-numbers.result) ++ (lines_of (bytes "MP.O.") 24 7 S.args.text.now 42 H.head_numbers-numbers.result)) (person-fits c.before.before.before.before.before.before.before) c.fields-b.ensures
 
 -- those of O behind those of A
-measures-fit : (c : tie.After-fields-c) → let H = c.before.before.before.before.before.before.before.before.before.before.before.before.before.before.before.before.before in let S = H.before.before.before in Fits c.fields-c.new.0 c.fields-c.result (print (lines_of (bytes "MP.O.") 24 7 S.args.text.now 42 H.head_numbers-numbers.result))
+measures-fit : (c : tie.After-fields-c) → let H = c.before.before.before.before.before.before.before.before.before.before.before.before.before.before.before.before.before in let S = H.before.before.before in Fits c.fields-c.new.out c.fields-c.result (print (lines_of (bytes "MP.O.") 24 7 S.args.text.now 42 H.head_numbers-numbers.result))
 measures-fit c = let H = c.before.before.before.before.before.before.before.before.before.before.before.before.before.before.before.before.before in let S = H.before.before.before in other_lines (lines_of (bytes "MP.A.") 14 10 S.args.text.now 22 H.head_numbers-numbers.result) (lines_of (bytes "MP.O.") 24 7 S.args.text.now 42 H.head_numbers-numbers.result) (author-fits c.before.before.before.before.before.before.before) c.fields-c.ensures
 
 head-numbers-requires : tie.Need-head_numbers-numbers-requires

@@ -17,11 +17,11 @@ fit : (S : tie.Start) → Fits S.args.out.now S.args.at (print (mp_lines S.args.
 fit S = record { inside = S.requires.2 }
 
 -- the patch and what is behind it fit
-patch-fits : (c : tie.After-text_line-a) → let S = c.before.before.before.before.before.before.before.before.before in Fits c.text_line-a.new.0 c.text_line-a.result (print ((given (bytes "MP.p") (decimal S.args.patch)) ++ (lines_of (bytes "MP.") 2 2 S.args.text.now 2 S.args.numbers.now)))
+patch-fits : (c : tie.After-text_line-a) → let S = c.before.before.before.before.before.before.before.before.before in Fits c.text_line-a.new.out c.text_line-a.result (print ((given (bytes "MP.p") (decimal S.args.patch)) ++ (lines_of (bytes "MP.") 2 2 S.args.text.now 2 S.args.numbers.now)))
 patch-fits c = let S = c.before.before.before.before.before.before.before.before.before in other_lines (line (bytes "MP.v") edition ∷ []) ((given (bytes "MP.p") (decimal S.args.patch)) ++ (lines_of (bytes "MP.") 2 2 S.args.text.now 2 S.args.numbers.now)) (fit S) c.text_line-a.ensures
 
 -- U and l fit
-rest-fits : (c : tie.After-number_line-b) → let S = c.before.before.before.before.before.before.before.before.before.before.before.before.before.before.before in Fits c.number_line-b.new.0 c.number_line-b.result (print (lines_of (bytes "MP.") 2 2 S.args.text.now 2 S.args.numbers.now))
+rest-fits : (c : tie.After-number_line-b) → let S = c.before.before.before.before.before.before.before.before.before.before.before.before.before.before.before in Fits c.number_line-b.new.out c.number_line-b.result (print (lines_of (bytes "MP.") 2 2 S.args.text.now 2 S.args.numbers.now))
 rest-fits c = let S = c.before.before.before.before.before.before.before.before.before.before.before.before.before.before.before in other_lines (given (bytes "MP.p") (decimal S.args.patch)) (lines_of (bytes "MP.") 2 2 S.args.text.now 2 S.args.numbers.now) (patch-fits c.before.before.before.before.before.before) c.number_line-b.ensures
 
 text-line-requires : tie.Need-text_line-a-requires

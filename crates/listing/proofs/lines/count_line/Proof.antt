@@ -17,17 +17,17 @@ fit : (S : tie.Start) → Fits S.args.out.now S.args.at (print (line S.args.key.
 fit S = record { inside = S.requires }
 
 -- the key is written
-key_in : (c : tie.After-lay-a) → let S = c.before.before.before.before in Wrote S.args.out.now c.lay-a.new.0 S.args.at c.lay-a.result S.args.key.now
+key_in : (c : tie.After-lay-a) → let S = c.before.before.before.before in Wrote S.args.out.now c.lay-a.new.out S.args.at c.lay-a.result S.args.key.now
 key_in c = wrote c.lay-a.ensures
 
 -- the digits are written
 value_in : (c : tie.After-numeral-b) → let L = c.before.before.before.before in let S = L.before.before.before.before in
-    Wrote (set L.lay-a.new.0 L.lay-a.result 61) c.numeral-b.new.1.0 (L.lay-a.result + 1) c.numeral-b.result (numeral S.args.n)
+    Wrote (set L.lay-a.new.out L.lay-a.result 61) c.numeral-b.new.out (L.lay-a.result + 1) c.numeral-b.result (numeral S.args.n)
 value_in c = c.numeral-b.ensures
 
 -- the line is written
 line-in : (c : tie.After-numeral-b) → let S = c.before.before.before.before.before.before.before.before in
-    Wrote S.args.out.now (set c.numeral-b.new.1.0 c.numeral-b.result 10) S.args.at (c.numeral-b.result + 1) (print (line S.args.key.now (numeral S.args.n) ∷ []))
+    Wrote S.args.out.now (set c.numeral-b.new.out c.numeral-b.result 10) S.args.at (c.numeral-b.result + 1) (print (line S.args.key.now (numeral S.args.n) ∷ []))
 line-in c = let L = c.before.before.before.before in let S = L.before.before.before.before.before.before.before.before in line_written (numeral S.args.n) (fit S) (key_in L) (value_in c)
 
 lay-requires : tie.Need-lay-a-requires

@@ -21,21 +21,21 @@ key_fits : (S : tie.Start) → Fits S.args.out.now S.args.at (S.args.path.now ++
 key_fits S = first_fits (S.args.path.now ++ name_of S.args.letters) (61 ∷ (S.args.value.now ++ 10 ∷ [])) (fit S)
 
 -- the path is written
-path-in : (c : tie.After-lay-name) → let S = c.before.before.before.before.before in Wrote S.args.out.now c.lay-name.new.0 S.args.at c.lay-name.result S.args.path.now
+path-in : (c : tie.After-lay-name) → let S = c.before.before.before.before.before in Wrote S.args.out.now c.lay-name.new.out S.args.at c.lay-name.result S.args.path.now
 path-in c = wrote c.lay-name.ensures
 
 -- the key is written
 key_in : (c : tie.After-lay_name-sign) → let S = c.before.before.before.before.before.before.before.before.before in
-    Wrote S.args.out.now c.lay_name-sign.new.1.0 S.args.at c.lay_name-sign.result (S.args.path.now ++ name_of S.args.letters)
+    Wrote S.args.out.now c.lay_name-sign.new.out S.args.at c.lay_name-sign.result (S.args.path.now ++ name_of S.args.letters)
 key_in c = let L = c.before.before.before.before in both_written (key_fits L.before.before.before.before.before) (path-in L) (wrote c.lay_name-sign.ensures)
 
 -- the value is written
 value_in : (c : tie.After-lay-end) → let N = c.before.before.before.before in let S = N.before.before.before.before.before.before.before.before.before in
-    Wrote (set N.lay_name-sign.new.1.0 N.lay_name-sign.result 61) c.lay-end.new.0 (N.lay_name-sign.result + 1) c.lay-end.result S.args.value.now
+    Wrote (set N.lay_name-sign.new.out N.lay_name-sign.result 61) c.lay-end.new.out (N.lay_name-sign.result + 1) c.lay-end.result S.args.value.now
 value_in c = wrote c.lay-end.ensures
 
 -- the line's end fits behind it
-end-in : (c : tie.After-lay-end) → c.lay-end.result < length c.lay-end.new.0
+end-in : (c : tie.After-lay-end) → c.lay-end.result < length c.lay-end.new.out
 end-in c =
     let N = c.before.before.before.before in
     let S = N.before.before.before.before.before.before.before.before.before in
@@ -43,7 +43,7 @@ end-in c =
 
 -- the line is written
 line-in : (c : tie.After-lay-end) → let S = c.before.before.before.before.before.before.before.before.before.before.before.before.before in
-    Wrote S.args.out.now (set c.lay-end.new.0 c.lay-end.result 10) S.args.at (c.lay-end.result + 1) (print (line (S.args.path.now ++ name_of S.args.letters) S.args.value.now ∷ []))
+    Wrote S.args.out.now (set c.lay-end.new.out c.lay-end.result 10) S.args.at (c.lay-end.result + 1) (print (line (S.args.path.now ++ name_of S.args.letters) S.args.value.now ∷ []))
 line-in c =
     let N = c.before.before.before.before in
     let S = N.before.before.before.before.before.before.before.before.before.before.before.before.before in

@@ -25,21 +25,21 @@ fit : (c : tie.Else-n-eq0) → let S = c.before.before.before in Fits S.args.out
 fit c = record { inside = rw (as_line c) at c.before.before.before.requires }
 
 -- the key is written
-key_in : (c : tie.After-lay-a) → let S = c.before.before.before.before.before in Wrote S.args.out.now c.lay-a.new.0 S.args.at c.lay-a.result S.args.key.now
+key_in : (c : tie.After-lay-a) → let S = c.before.before.before.before.before in Wrote S.args.out.now c.lay-a.new.out S.args.at c.lay-a.result S.args.key.now
 key_in c = wrote c.lay-a.ensures
 
 -- the digits are written
 value_in : (c : tie.After-spell-b) → let L = c.before.before.before.before in let S = L.before.before.before.before.before in
-    Wrote (set L.lay-a.new.0 L.lay-a.result 61) c.spell-b.new.1.0 (L.lay-a.result + 1) c.spell-b.result (decimal S.args.n)
+    Wrote (set L.lay-a.new.out L.lay-a.result 61) c.spell-b.new.out (L.lay-a.result + 1) c.spell-b.result (decimal S.args.n)
 value_in c = wrote c.spell-b.ensures
 
 -- the line's end fits behind them
-end-in : (c : tie.After-spell-b) → c.spell-b.result < length c.spell-b.new.1.0
+end-in : (c : tie.After-spell-b) → c.spell-b.result < length c.spell-b.new.out
 end-in c = let L = c.before.before.before.before in let E = L.before.before in end_fits (decimal E.before.before.before.args.n) (fit E) (key_in L) (value_in c)
 
 -- the line is written
 line-in : (c : tie.After-spell-b) → let E = c.before.before.before.before.before.before in let S = E.before.before.before in
-    Wrote S.args.out.now (set c.spell-b.new.1.0 c.spell-b.result 10) S.args.at (c.spell-b.result + 1) (print (line S.args.key.now (decimal S.args.n) ∷ []))
+    Wrote S.args.out.now (set c.spell-b.new.out c.spell-b.result 10) S.args.at (c.spell-b.result + 1) (print (line S.args.key.now (decimal S.args.n) ∷ []))
 line-in c = let L = c.before.before.before.before in let E = L.before.before.before.before.before.before in line_written (decimal E.before.before.before.args.n) (fit E) (key_in L) (value_in c)
 
 returns : tie.Need-returns-then-n-eq0

@@ -18,19 +18,19 @@ fit : (c : tie.Else-n-lt10) → let S = c.before.before in Fits S.args.out.now S
 fit c = let S = c.before.before in record { inside = rw (more_digits S.args.n c.if-n-lt10.false (search rules)) at S.requires }
 
 -- the tenth is written
-tenth-in : (c : tie.After-spell-a) → let S = c.before.before.before.before in Wrote S.args.out.now c.spell-a.new.1.0 S.args.at c.spell-a.result (decimal (S.args.n / 10))
+tenth-in : (c : tie.After-spell-a) → let S = c.before.before.before.before in Wrote S.args.out.now c.spell-a.new.out S.args.at c.spell-a.result (decimal (S.args.n / 10))
 tenth-in c = wrote c.spell-a.ensures
 
 -- the last digit fits behind it
-last_fits : (c : tie.After-spell-a) → let S = c.before.before.before.before in Fits c.spell-a.new.1.0 c.spell-a.result ((48 + S.args.n % 10) ∷ [])
+last_fits : (c : tie.After-spell-a) → let S = c.before.before.before.before in Fits c.spell-a.new.out c.spell-a.result ((48 + S.args.n % 10) ∷ [])
 last_fits c = let S = c.before.before.before.before in second_fits ((48 + S.args.n % 10) ∷ []) (fit c.before.before) (tenth-in c)
 
 -- both are written
 all_in : (c : tie.After-spell-a) → let S = c.before.before.before.before in
-    Wrote S.args.out.now (set c.spell-a.new.1.0 c.spell-a.result (48 + S.args.n % 10)) S.args.at (c.spell-a.result + 1) (decimal (S.args.n / 10) ++ ((48 + S.args.n % 10) ∷ []))
+    Wrote S.args.out.now (set c.spell-a.new.out c.spell-a.result (48 + S.args.n % 10)) S.args.at (c.spell-a.result + 1) (decimal (S.args.n / 10) ++ ((48 + S.args.n % 10) ∷ []))
 all_in c =
     let S = c.before.before.before.before in
-    both_written (fit c.before.before) (tenth-in c) (byte_written c.spell-a.new.1.0 c.spell-a.result (48 + S.args.n % 10) (omega (arith, (last_fits c).inside)))
+    both_written (fit c.before.before) (tenth-in c) (byte_written c.spell-a.new.out c.spell-a.result (48 + S.args.n % 10) (omega (arith, (last_fits c).inside)))
 
 cast-out : tie.Need-overflow_cast-out
 cast-out c = search rules

@@ -17,17 +17,17 @@ fit : (S : tie.Start) → Fits S.args.out.now S.args.at (print (line S.args.key.
 fit S = record { inside = S.requires }
 
 -- the key is written
-key_in : (c : tie.After-lay-a) → let S = c.before.before.before.before.before in Wrote S.args.out.now c.lay-a.new.0 S.args.at c.lay-a.result S.args.key.now
+key_in : (c : tie.After-lay-a) → let S = c.before.before.before.before.before in Wrote S.args.out.now c.lay-a.new.out S.args.at c.lay-a.result S.args.key.now
 key_in c = wrote c.lay-a.ensures
 
 -- the value is written
 value_in : (c : tie.After-lay-b) → let L = c.before.before.before.before in let S = L.before.before.before.before.before in
-    Wrote (set L.lay-a.new.0 L.lay-a.result 61) c.lay-b.new.0 (L.lay-a.result + 1) c.lay-b.result S.args.value.now
+    Wrote (set L.lay-a.new.out L.lay-a.result 61) c.lay-b.new.out (L.lay-a.result + 1) c.lay-b.result S.args.value.now
 value_in c = wrote c.lay-b.ensures
 
 -- the line is written
 line-in : (c : tie.After-lay-b) → let S = c.before.before.before.before.before.before.before.before.before in
-    Wrote S.args.out.now (set c.lay-b.new.0 c.lay-b.result 10) S.args.at (c.lay-b.result + 1) (print (line S.args.key.now S.args.value.now ∷ []))
+    Wrote S.args.out.now (set c.lay-b.new.out c.lay-b.result 10) S.args.at (c.lay-b.result + 1) (print (line S.args.key.now S.args.value.now ∷ []))
 line-in c = let L = c.before.before.before.before in let S = L.before.before.before.before.before.before.before.before.before in line_written S.args.value.now (fit S) (key_in L) (value_in c)
 
 lay-requires : tie.Need-lay-a-requires

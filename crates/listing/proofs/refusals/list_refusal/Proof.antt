@@ -15,11 +15,11 @@ unfolding refusal_lines
 fit S = fits_whole S.args.out.now (print ((line (bytes "refused") (numeral S.args.number) ∷ []) ++ ((line (bytes "page") (numeral S.args.page) ∷ []) ++ (line (bytes "place") (numeral S.args.place) ∷ [])))) S.requires
 
 -- the page's and the place's fit behind the number's
-page-fits : (c : tie.After-count_line-a) → let S = c.before.before.before.before.before in Fits c.count_line-a.new.0 c.count_line-a.result (print ((line (bytes "page") (numeral S.args.page) ∷ []) ++ (line (bytes "place") (numeral S.args.place) ∷ [])))
+page-fits : (c : tie.After-count_line-a) → let S = c.before.before.before.before.before in Fits c.count_line-a.new.out c.count_line-a.result (print ((line (bytes "page") (numeral S.args.page) ∷ []) ++ (line (bytes "place") (numeral S.args.place) ∷ [])))
 page-fits c = let S = c.before.before.before.before.before in other_lines (line (bytes "refused") (numeral S.args.number) ∷ []) ((line (bytes "page") (numeral S.args.page) ∷ []) ++ (line (bytes "place") (numeral S.args.place) ∷ [])) (fit S) c.count_line-a.ensures
 
 -- the place's behind the page's
-place-fits : (c : tie.After-count_line-b) → let S = c.before.before.before.before.before.before.before.before.before.before.before in Fits c.count_line-b.new.0 c.count_line-b.result (print (line (bytes "place") (numeral S.args.place) ∷ []))
+place-fits : (c : tie.After-count_line-b) → let S = c.before.before.before.before.before.before.before.before.before.before.before in Fits c.count_line-b.new.out c.count_line-b.result (print (line (bytes "place") (numeral S.args.place) ∷ []))
 place-fits c = let S = c.before.before.before.before.before.before.before.before.before.before.before in other_lines (line (bytes "page") (numeral S.args.page) ∷ []) (line (bytes "place") (numeral S.args.place) ∷ []) (page-fits c.before.before.before.before.before.before) c.count_line-b.ensures
 
 count-line-requires : tie.Need-count_line-a-requires

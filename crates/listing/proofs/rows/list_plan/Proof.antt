@@ -15,7 +15,7 @@ fit : (S : tie.Start) → Fits S.args.out.now 0 (print ((head_part S.args.text.n
 fit S = fits_as (listing_is S.args.text.now S.args.plan S.args.rows.now) (fits_whole S.args.out.now _ S.requires.3)
 
 -- those of the rows and of their count fit behind those of the head
-rows_fit : (c : tie.After-head_lines-a) → let S = c.before.before.before.before.before.before in Fits c.head_lines-a.new.0 c.head_lines-a.result (print ((rows_part S.args.text.now S.args.plan S.args.rows.now) ++ (count_part S.args.plan)))
+rows_fit : (c : tie.After-head_lines-a) → let S = c.before.before.before.before.before.before in Fits c.head_lines-a.new.out c.head_lines-a.result (print ((rows_part S.args.text.now S.args.plan S.args.rows.now) ++ (count_part S.args.plan)))
 rows_fit c = let S = c.before.before.before.before.before.before in other_lines (head_part S.args.text.now S.args.plan) ((rows_part S.args.text.now S.args.plan S.args.rows.now) ++ (count_part S.args.plan)) (fit S) c.head_lines-a.ensures
 
 head-lines-requires : tie.Need-head_lines-a-requires

@@ -22,15 +22,15 @@ fit : (S : tie.Start) → Fits S.args.out.now S.args.at (print ((line (bytes "ro
 fit S = record { inside = S.requires.2 }
 
 -- the package number and what is behind it fit behind the mark
-package-fits : (c : tie.After-text_line-a) → let S = c.before.before.before.before.before.before.before.before.before in Fits c.text_line-a.new.0 c.text_line-a.result (print ((given (bytes "MP.S.M.p") (decimal (get_or (record_at S.args.rows.now S.args.i) 1 0))) ++ ((lines_of (path M) 34 13 S.args.text.now (span_place S.args.i 0) S.args.rows.now) ++ (substance_lines S.args.text.now S.args.rows.now S.args.i))))
+package-fits : (c : tie.After-text_line-a) → let S = c.before.before.before.before.before.before.before.before.before in Fits c.text_line-a.new.out c.text_line-a.result (print ((given (bytes "MP.S.M.p") (decimal (get_or (record_at S.args.rows.now S.args.i) 1 0))) ++ ((lines_of (path M) 34 13 S.args.text.now (span_place S.args.i 0) S.args.rows.now) ++ (substance_lines S.args.text.now S.args.rows.now S.args.i))))
 package-fits c = let S = c.before.before.before.before.before.before.before.before.before in other_lines (line (bytes "row") (bytes "M") ∷ []) ((given (bytes "MP.S.M.p") (decimal (get_or (record_at S.args.rows.now S.args.i) 1 0))) ++ ((lines_of (path M) 34 13 S.args.text.now (span_place S.args.i 0) S.args.rows.now) ++ (substance_lines S.args.text.now S.args.rows.now S.args.i))) (fit S) c.text_line-a.ensures
 
 -- the package number is written
-package-in : (c : tie.After-number_line-b) → let T = c.before.before.before.before.before.before.before in let S = T.before.before.before.before.before.before.before.before.before in Wrote T.text_line-a.new.0 c.number_line-b.new.0 T.text_line-a.result c.number_line-b.result (print (given (bytes "MP.S.M.p") (decimal (get_or (record_at S.args.rows.now S.args.i) 1 0))))
+package-in : (c : tie.After-number_line-b) → let T = c.before.before.before.before.before.before.before in let S = T.before.before.before.before.before.before.before.before.before in Wrote T.text_line-a.new.out c.number_line-b.new.out T.text_line-a.result c.number_line-b.result (print (given (bytes "MP.S.M.p") (decimal (get_or (record_at S.args.rows.now S.args.i) 1 0))))
 package-in c = rw c.before.before.before.before.package_at-p.ensures at c.number_line-b.ensures
 
 -- the fields and the substances fit behind it
-fields_fit : (c : tie.After-number_line-b) → let S = c.before.before.before.before.before.before.before.before.before.before.before.before.before.before.before.before in Fits c.number_line-b.new.0 c.number_line-b.result (print ((lines_of (path M) 34 13 S.args.text.now (span_place S.args.i 0) S.args.rows.now) ++ (substance_lines S.args.text.now S.args.rows.now S.args.i)))
+fields_fit : (c : tie.After-number_line-b) → let S = c.before.before.before.before.before.before.before.before.before.before.before.before.before.before.before.before in Fits c.number_line-b.new.out c.number_line-b.result (print ((lines_of (path M) 34 13 S.args.text.now (span_place S.args.i 0) S.args.rows.now) ++ (substance_lines S.args.text.now S.args.rows.now S.args.i)))
 fields_fit c = let S = c.before.before.before.before.before.before.before.before.before.before.before.before.before.before.before.before in other_lines (given (bytes "MP.S.M.p") (decimal (get_or (record_at S.args.rows.now S.args.i) 1 0))) ((lines_of (path M) 34 13 S.args.text.now (span_place S.args.i 0) S.args.rows.now) ++ (substance_lines S.args.text.now S.args.rows.now S.args.i)) (package-fits c.before.before.before.before.before.before.before) (package-in c)
 
 text-line-requires : tie.Need-text_line-a-requires

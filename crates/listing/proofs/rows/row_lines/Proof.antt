@@ -97,7 +97,7 @@ same_length : tie.Need-shape_of-out-in-Heading
 same_length c = search rules
 
 returns : tie.Need-returns-in-Heading
-returns c = let D = c.before.before in wrote_as (ap print (row-1 D.before.before.before.before.before.before)) D.plain-Row.ensures
+returns c = let D = c.before.before in wrote_as (ap print (row-1 D.before.before.before.before.before.before)) D.plain_row.ensures
 
 same-length-2 : tie.Need-shape_of-out-in-Medication
 same-length-2 c = search rules

@@ -18,11 +18,11 @@ fit : (S : tie.Start) → Fits S.args.out.now S.args.at (print ((lines_of (path 
 fit S = record { inside = S.requires.2 }
 
 -- those of the second and third fit behind the first
-second-fit : (c : tie.After-fields-a) → let S = c.before.before.before.before.before.before.before in Fits c.fields-a.new.0 c.fields-a.result (print ((lines_of (path W) 47 2 S.args.text.now (span_place S.args.i 15) S.args.rows.now) ++ (lines_of (path W) 47 2 S.args.text.now (span_place S.args.i 17) S.args.rows.now)))
+second-fit : (c : tie.After-fields-a) → let S = c.before.before.before.before.before.before.before in Fits c.fields-a.new.out c.fields-a.result (print ((lines_of (path W) 47 2 S.args.text.now (span_place S.args.i 15) S.args.rows.now) ++ (lines_of (path W) 47 2 S.args.text.now (span_place S.args.i 17) S.args.rows.now)))
 second-fit c = let S = c.before.before.before.before.before.before.before in other_lines (lines_of (path W) 47 2 S.args.text.now (span_place S.args.i 13) S.args.rows.now) ((lines_of (path W) 47 2 S.args.text.now (span_place S.args.i 15) S.args.rows.now) ++ (lines_of (path W) 47 2 S.args.text.now (span_place S.args.i 17) S.args.rows.now)) (fit S) c.fields-a.ensures
 
 -- those of the third behind the second
-third-fit : (c : tie.After-fields-b) → let S = c.before.before.before.before.before.before.before.before.before.before.before.before.before in Fits c.fields-b.new.0 c.fields-b.result (print (lines_of (path W) 47 2 S.args.text.now (span_place S.args.i 17) S.args.rows.now))
+third-fit : (c : tie.After-fields-b) → let S = c.before.before.before.before.before.before.before.before.before.before.before.before.before in Fits c.fields-b.new.out c.fields-b.result (print (lines_of (path W) 47 2 S.args.text.now (span_place S.args.i 17) S.args.rows.now))
 third-fit c = let S = c.before.before.before.before.before.before.before.before.before.before.before.before.before in other_lines (lines_of (path W) 47 2 S.args.text.now (span_place S.args.i 15) S.args.rows.now) (lines_of (path W) 47 2 S.args.text.now (span_place S.args.i 17) S.args.rows.now) (second-fit c.before.before.before.before.before.before) c.fields-b.ensures
 
 mul-k : tie.Need-overflow_mul-k

@@ -82,7 +82,7 @@ loop-again c =
       lies = N.behind_it;
       low = omega (arith, v.low, N.wide);
       small = omega (arith, v.low, N.wide, g);
-      so = omega (arith, v.so, ap length (row_next N (sym c.before.Gives-row.ensures ∙ c.if-gives_row.true)));
+      so = omega (arith, v.so, ap length (row_next N (sym c.before.gives_row.ensures ∙ c.if-gives_row.true)));
     }
 
 loop-less-2 : tie.Need-loop-f-smaller invariant-loop decreases-loop
@@ -99,7 +99,7 @@ loop-again-2 c =
       lies = N.behind_it;
       low = omega (arith, v.low, N.wide);
       small = v.small;
-      so = omega (arith, v.so, ap length (no_row_next N (sym c.before.Gives-row.ensures ∙ c.if-gives_row.false)));
+      so = omega (arith, v.so, ap length (no_row_next N (sym c.before.gives_row.ensures ∙ c.if-gives_row.false)));
     }
 
 returns : tie.Need-returns invariant-loop decreases-loop

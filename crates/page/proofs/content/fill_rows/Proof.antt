@@ -52,7 +52,7 @@ med-filling c = refill (med c).row_is c.before.before.before.before.loop-f.invar
 plain-filling : (c : tie.Then-gives_row invariant-loop decreases-loop) → Left c.before.before.before.before.before.before (row_from (kind_at (get_or c.before.before.before.before.before.before.before.before.before.before.before.before.args.tape.now c.before.before.before.before.before.before.loop-f.f 0)) (here (next c.before.before.before.before.before)) [] ∷ rows_by (next c.before.before.before.before.before).rest)
 plain-filling c =
     let N = next c.before.before.before.before.before in
-    refill (row_next N (sym c.before.Gives-row.ensures ∙ c.if-gives_row.true)
+    refill (row_next N (sym c.before.gives_row.ensures ∙ c.if-gives_row.true)
     ∙ ap (λ (r : Row). r ∷ rows_by N.rest) (plain_ws (get_or c.before.before.before.before.before.before.before.before.before.before.before.before.args.tape.now c.before.before.before.before.before.before.loop-f.f 0) N.known c.before.before.if-kind-eq-M.false (here N) (ws_by N.rest))) c.before.before.before.before.before.before.loop-f.invariant.filling
 
 loop-holds : tie.Need-loop-f-init invariant-loop decreases-loop
@@ -177,7 +177,7 @@ loop-again-3 : tie.Need-loop-f-preserved invariant-loop decreases-loop
 loop-again-3 c =
     let N = next c.before.before.before.before.before in
     let v = c.before.before.before.before.before.before.loop-f.invariant in
-    record { rest = N.rest; lies = N.behind_it; fit = (fit_next N v.fit).2; filling = refill (no_row_next N (sym c.before.Gives-row.ensures ∙ c.if-gives_row.false)) v.filling }
+    record { rest = N.rest; lies = N.behind_it; fit = (fit_next N v.fit).2; filling = refill (no_row_next N (sym c.before.gives_row.ensures ∙ c.if-gives_row.false)) v.filling }
 
 same_length : tie.Need-shape_of-rows invariant-loop decreases-loop
 same_length c = search rules

@@ -40,30 +40,30 @@ unfolding head_from kind_at
 measures-eq c = part_values c.before.before.before.before.before.before.before.before.before.before.before.before.before.before.before.before.before.before.before.before.before.before.before.before.before.before.before.before.before.before.before.before.before.before.before.before.requires.0.measures_at c.count_of-3.result c.count_of-3.ensures.0
 
 -- the rooms behind U, l, P and A
-room₀ : (c : tie.After-lay_slots-u) → Room ((head c.before.before.before.before.before.before.before.before.before.before.before).lang ∷ ((head c.before.before.before.before.before.before.before.before.before.before.before).person ++ ((head c.before.before.before.before.before.before.before.before.before.before.before).author ++ (head c.before.before.before.before.before.before.before.before.before.before.before).measures))) c.lay_slots-u.new.1.1.1.1.1.0 c.lay_slots-u.result
+room₀ : (c : tie.After-lay_slots-u) → Room ((head c.before.before.before.before.before.before.before.before.before.before.before).lang ∷ ((head c.before.before.before.before.before.before.before.before.before.before.before).person ++ ((head c.before.before.before.before.before.before.before.before.before.before.before).author ++ (head c.before.before.before.before.before.before.before.before.before.before.before).measures))) c.lay_slots-u.new.text c.lay_slots-u.result
 room₀ c = room_behind ((head c.before.before.before.before.before.before.before.before.before.before.before).ident ∷ []) _ c.before.before.before.before.before.before.before.before.before.before.before.before.requires.2 (relay (ident_values c.before.before.before.before.before.before.before.before.before.before.before.before.requires.0.mp_at) c.lay_slots-u.ensures)
 
-room₁ : (c : tie.After-lay_one-m) → Room ((head c.before.before.before.before.before.before.before.before.before.before.before.before.before.before.before.before.before).person ++ ((head c.before.before.before.before.before.before.before.before.before.before.before.before.before.before.before.before.before).author ++ (head c.before.before.before.before.before.before.before.before.before.before.before.before.before.before.before.before.before).measures)) c.lay_one-m.new.1.0 c.lay_one-m.result
+room₁ : (c : tie.After-lay_one-m) → Room ((head c.before.before.before.before.before.before.before.before.before.before.before.before.before.before.before.before.before).person ++ ((head c.before.before.before.before.before.before.before.before.before.before.before.before.before.before.before.before.before).author ++ (head c.before.before.before.before.before.before.before.before.before.before.before.before.before.before.before.before.before).measures)) c.lay_one-m.new.text c.lay_one-m.result
 room₁ c = room_behind ((head c.before.before.before.before.before.before.before.before.before.before.before.before.before.before.before.before.before).lang ∷ []) _ (room₀ c.before.before.before.before.before.before) (relay (lang-eq c.before.before.before.before.before.before.before.before.before.before) c.lay_one-m.ensures)
 
-room₂ : (c : tie.After-lay_slots-p) → Room ((head c.before.before.before.before.before.before.before.before.before.before.before.before.before.before.before.before.before.before.before.before.before.before.before.before).author ++ (head c.before.before.before.before.before.before.before.before.before.before.before.before.before.before.before.before.before.before.before.before.before.before.before.before).measures) c.lay_slots-p.new.1.1.1.1.1.0 c.lay_slots-p.result
+room₂ : (c : tie.After-lay_slots-p) → Room ((head c.before.before.before.before.before.before.before.before.before.before.before.before.before.before.before.before.before.before.before.before.before.before.before.before).author ++ (head c.before.before.before.before.before.before.before.before.before.before.before.before.before.before.before.before.before.before.before.before.before.before.before.before).measures) c.lay_slots-p.new.text c.lay_slots-p.result
 room₂ c = room_behind (head c.before.before.before.before.before.before.before.before.before.before.before.before.before.before.before.before.before.before.before.before.before.before.before.before).person _ (room₁ c.before.before.before.before.before.before.before) (relay (person-eq c.before.before.before) c.lay_slots-p.ensures)
 
-room₃ : (c : tie.After-lay_slots-a) → Room (head c.before.before.before.before.before.before.before.before.before.before.before.before.before.before.before.before.before.before.before.before.before.before.before.before.before.before.before.before.before.before.before).measures c.lay_slots-a.new.1.1.1.1.1.0 c.lay_slots-a.result
+room₃ : (c : tie.After-lay_slots-a) → Room (head c.before.before.before.before.before.before.before.before.before.before.before.before.before.before.before.before.before.before.before.before.before.before.before.before.before.before.before.before.before.before.before).measures c.lay_slots-a.new.text c.lay_slots-a.result
 room₃ c = room_behind (head c.before.before.before.before.before.before.before.before.before.before.before.before.before.before.before.before.before.before.before.before.before.before.before.before.before.before.before.before.before.before.before).author _ (room₂ c.before.before.before.before.before.before.before) (relay (author-eq c.before.before.before) c.lay_slots-a.ensures)
 
 -- how long the numbers are
-long₀ : (c : tie.After-lay_slots-u) → length c.lay_slots-u.new.1.1.1.1.1.1.1.0 ≡ 54
-long₀ c = c.lay_slots-u.auto.1.1.1.1.1.1.1.0
+long₀ : (c : tie.After-lay_slots-u) → length c.lay_slots-u.new.numbers ≡ 54
+long₀ c = c.lay_slots-u.auto.numbers
 
-long₁ : (c : tie.After-lay_one-m) → length c.lay_one-m.new.1.1.1.0 ≡ 54
-long₁ c = c.lay_one-m.auto.1.1.1.0 ∙ long₀ c.before.before.before.before.before.before
+long₁ : (c : tie.After-lay_one-m) → length c.lay_one-m.new.numbers ≡ 54
+long₁ c = c.lay_one-m.auto.numbers ∙ long₀ c.before.before.before.before.before.before
 
-long₂ : (c : tie.After-lay_slots-p) → length c.lay_slots-p.new.1.1.1.1.1.1.1.0 ≡ 54
-long₂ c = c.lay_slots-p.auto.1.1.1.1.1.1.1.0 ∙ long₁ c.before.before.before.before.before.before.before
+long₂ : (c : tie.After-lay_slots-p) → length c.lay_slots-p.new.numbers ≡ 54
+long₂ c = c.lay_slots-p.auto.numbers ∙ long₁ c.before.before.before.before.before.before.before
 
-long₃ : (c : tie.After-lay_slots-a) → length c.lay_slots-a.new.1.1.1.1.1.1.1.0 ≡ 54
-long₃ c = c.lay_slots-a.auto.1.1.1.1.1.1.1.0 ∙ long₂ c.before.before.before.before.before.before.before
+long₃ : (c : tie.After-lay_slots-a) → length c.lay_slots-a.new.numbers ≡ 54
+long₃ c = c.lay_slots-a.auto.numbers ∙ long₂ c.before.before.before.before.before.before.before
 
 mp-number-requires : tie.Need-mp_number-patch-requires
 unfolding field_at fields_of
@@ -133,7 +133,7 @@ spans-of-requires : tie.Need-spans_of-spans-requires
 spans-of-requires c κs = search rules
 
 same_length : tie.Need-shape_of-text
-same_length c = c.before.before.before.before.before.lay_slots-e.auto.1.1.1.1.1.0 ∙ (c.before.before.before.before.before.before.before.before.before.before.before.before.lay_slots-a.auto.1.1.1.1.1.0 ∙ (c.before.before.before.before.before.before.before.before.before.before.before.before.before.before.before.before.before.before.before.lay_slots-p.auto.1.1.1.1.1.0 ∙ (c.before.before.before.before.before.before.before.before.before.before.before.before.before.before.before.before.before.before.before.before.before.before.before.before.before.before.lay_one-m.auto.1.0 ∙ c.before.before.before.before.before.before.before.before.before.before.before.before.before.before.before.before.before.before.before.before.before.before.before.before.before.before.before.before.before.before.before.before.lay_slots-u.auto.1.1.1.1.1.0)))
+same_length c = c.before.before.before.before.before.lay_slots-e.auto.text ∙ (c.before.before.before.before.before.before.before.before.before.before.before.before.lay_slots-a.auto.text ∙ (c.before.before.before.before.before.before.before.before.before.before.before.before.before.before.before.before.before.before.before.lay_slots-p.auto.text ∙ (c.before.before.before.before.before.before.before.before.before.before.before.before.before.before.before.before.before.before.before.before.before.before.before.before.before.before.lay_one-m.auto.text ∙ c.before.before.before.before.before.before.before.before.before.before.before.before.before.before.before.before.before.before.before.before.before.before.before.before.before.before.before.before.before.before.before.before.lay_slots-u.auto.text)))
 
 returns : tie.Need-returns
 returns c =

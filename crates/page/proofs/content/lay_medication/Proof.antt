@@ -44,7 +44,7 @@ lay-slots-requires c κs =
       omega (arith, S.requires.0),
       S.requires.1.1,
       room_first (others S) (concat (ws_by W.elems)) _ _ (reroom (medication_values (first S) (others S) (ws_by W.elems)) (S.requires.5 W.elems W.lies).1),
-      omega (arith, S.requires.4, c.before.before.before.before.open_row.auto.0),
+      omega (arith, S.requires.4, c.before.before.before.before.open_row.auto.rows),
     )
 
 mul-lay-ws : tie.Need-overflow_mul-r-2
@@ -64,7 +64,7 @@ lay-ws-requires c κs =
       S.requires.3,
       λ es L. (
         room_behind (others S) (concat (ws_by es)) (reroom (medication_values (first S) (others S) (ws_by es)) (S.requires.5 es L).1) at-lay-slots.lay_slots-m.ensures,
-        omega (arith, (S.requires.5 es L).0, S.requires.4, c.before.before.before.before.before.before.before.before.before.before.before.open_row.auto.0, at-lay-slots.lay_slots-m.auto.1.1.1.1.1.1.1.0),
+        omega (arith, (S.requires.5 es L).0, S.requires.4, c.before.before.before.before.before.before.before.before.before.before.before.open_row.auto.rows, at-lay-slots.lay_slots-m.auto.numbers),
       ),
     )
 

@@ -42,7 +42,7 @@ lay-slots-requires c κs =
       omega (arith, S.requires.2, e),
       subst (λ (n : ℕ). Spans S.args.page.now (length S.args.side.now) n S.args.tape.now S.args.base) (sym e) S.requires.3,
       reroom (all at-count-of) (reroom (plain_values S.args.kind S.requires.0 S.requires.1 _) S.requires.4),
-      omega (arith, e, k, S.requires.5, c.before.before.before.before.open_row.auto.0),
+      omega (arith, e, k, S.requires.5, c.before.before.before.before.open_row.auto.rows),
     )
 
 same_length : tie.Need-shape_of-text

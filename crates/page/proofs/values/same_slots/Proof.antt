@@ -100,7 +100,7 @@ spells-requires : tie.Need-spells-requires invariant-loop decreases-loop
 spells-requires c κs = search rules
 
 returns : tie.Need-returns-then-not-spells invariant-loop decreases-loop
-returns c = sym (c.before.before.before.before.before.before.before.before.before.loop-j.invariant.so ∙ slots_other _ _ _ _ _ _ _ (left c.before.before.before.before.before.before.before.before) (sym (found c.before) ∙ no_not _ c.if-not-spells.true))
+returns c = sym (c.before.before.before.before.before.before.before.before.before.loop-j.invariant.so ∙ slots_other _ _ _ _ _ _ _ (left c.before.before.before.before.before.before.before.before) (sym (found c.before) ∙ c.if-not-spells.true))
 
 add-p : tie.Need-overflow_add-p-in-loop-j invariant-loop decreases-loop
 add-p c = search rules

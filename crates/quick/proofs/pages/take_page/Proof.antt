@@ -30,10 +30,10 @@ take-root-requires : tie.Need-take_root-root-requires invariant-loop decreases-l
 take-root-requires c κs = let S = c.before.before.before.before.before in (S.requires.0, S.requires.1, S.requires.2, S.requires.3, S.requires.4, S.requires.5, S.requires.6, S.requires.7)
 
 same_length : tie.Need-shape_of-tape-then-root-eq0 invariant-loop decreases-loop
-same_length c = c.before.before.before.before.before.before.take_root-root.auto.1.1.1.1.1.0
+same_length c = c.before.before.before.before.before.before.take_root-root.auto.tape
 
 same-length-2 : tie.Need-shape_of-side-then-root-eq0 invariant-loop decreases-loop
-same-length-2 c = c.before.before.before.before.before.before.take_root-root.auto.1.1.1.1.1.1.1.0
+same-length-2 c = c.before.before.before.before.before.before.take_root-root.auto.side
 
 returns : tie.Need-returns-then-root-eq0 invariant-loop decreases-loop
 returns c = λ n. absurd (n refl)
@@ -48,10 +48,10 @@ byte-or-requires : tie.Need-byte_or-requires invariant-loop decreases-loop
 byte-or-requires c κs = search rules
 
 same-length-3 : tie.Need-shape_of-tape-then-byte_or-ne60 invariant-loop decreases-loop
-same-length-3 c = c.before.before.before.before.before.loop-st.invariant.long.0 ∙ c.before.before.before.before.before.before.before.before.before.before.before.before.before.take_root-root.auto.1.1.1.1.1.0
+same-length-3 c = c.before.before.before.before.before.loop-st.invariant.long.0 ∙ c.before.before.before.before.before.before.before.before.before.before.before.before.before.take_root-root.auto.tape
 
 same-length-4 : tie.Need-shape_of-side-then-byte_or-ne60 invariant-loop decreases-loop
-same-length-4 c = c.before.before.before.before.before.loop-st.invariant.long.1 ∙ c.before.before.before.before.before.before.before.before.before.before.before.before.before.take_root-root.auto.1.1.1.1.1.1.1.0
+same-length-4 c = c.before.before.before.before.before.loop-st.invariant.long.1 ∙ c.before.before.before.before.before.before.before.before.before.before.before.before.before.take_root-root.auto.side
 
 returns-2 : tie.Need-returns-then-byte_or-ne60 invariant-loop decreases-loop
 returns-2 c = λ n. absurd (n refl)
@@ -66,10 +66,10 @@ end-behind-requires : tie.Need-end_behind-r-requires invariant-loop decreases-lo
 end-behind-requires c κs = (slash c, c.before.before.before.before.before.before.before.before.before.before.before.before.before.before.before.before.before.before.before.before.before.requires.1, c.before.before.before.before.before.loop-st-test.true)
 
 same-length-5 : tie.Need-shape_of-tape-then-r-eq0 invariant-loop decreases-loop
-same-length-5 c = c.before.before.before.before.before.before.before.before.before.loop-st.invariant.long.0 ∙ c.before.before.before.before.before.before.before.before.before.before.before.before.before.before.before.before.before.take_root-root.auto.1.1.1.1.1.0
+same-length-5 c = c.before.before.before.before.before.before.before.before.before.loop-st.invariant.long.0 ∙ c.before.before.before.before.before.before.before.before.before.before.before.before.before.before.before.before.before.take_root-root.auto.tape
 
 same-length-6 : tie.Need-shape_of-side-then-r-eq0 invariant-loop decreases-loop
-same-length-6 c = c.before.before.before.before.before.before.before.before.before.loop-st.invariant.long.1 ∙ c.before.before.before.before.before.before.before.before.before.before.before.before.before.before.before.before.before.take_root-root.auto.1.1.1.1.1.1.1.0
+same-length-6 c = c.before.before.before.before.before.before.before.before.before.loop-st.invariant.long.1 ∙ c.before.before.before.before.before.before.before.before.before.before.before.before.before.before.before.before.before.take_root-root.auto.side
 
 returns-3 : tie.Need-returns-then-r-eq0 invariant-loop decreases-loop
 returns-3 c = λ n. absurd (n refl)
@@ -95,15 +95,15 @@ take-start-requires c κs =
     let S = c.before.before.before.before.before.before.before.before.before.before.before.before.before.before.before.before.before.before.before.before.before.before.before in
     let H = c.before.before.before.before.before.before.before.before.before.loop-st.invariant in
     let R = c.before.before.before.before.before.before.spaces_end-s.ensures in
-    let lt = c.before.before.before.before.before.before.before.before.before.before.before.before.before.before.before.before.before.take_root-root.auto.1.1.1.1.1.0 in
-    let ls = c.before.before.before.before.before.before.before.before.before.before.before.before.before.before.before.before.before.take_root-root.auto.1.1.1.1.1.1.1.0 in
+    let lt = c.before.before.before.before.before.before.before.before.before.before.before.before.before.before.before.before.before.take_root-root.auto.tape in
+    let ls = c.before.before.before.before.before.before.before.before.before.before.before.before.before.before.before.before.before.take_root-root.auto.side in
     (R.0, R.1, less (c.before.before.before.before), sym c.before.before.before.before.before.byte_or.ensures ∙ c.before.before.before.before.if-byte_or-ne60.false, S.requires.1, H.sound, S.requires.2, S.requires.3, H.room.1, omega (arith, S.requires.5, H.long.0, lt), H.room.0, omega (arith, S.requires.7, H.long.1, ls))
 
 same-length-7 : tie.Need-shape_of-tape-then-step-eq0 invariant-loop decreases-loop
-same-length-7 c = c.before.before.before.before.before.before.take_start-step.auto.1.1.1.1.1.1.1.1.0 ∙ c.before.before.before.before.before.before.before.before.before.before.before.before.before.before.before.before.loop-st.invariant.long.0 ∙ c.before.before.before.before.before.before.before.before.before.before.before.before.before.before.before.before.before.before.before.before.before.before.before.before.take_root-root.auto.1.1.1.1.1.0
+same-length-7 c = c.before.before.before.before.before.before.take_start-step.auto.tape ∙ c.before.before.before.before.before.before.before.before.before.before.before.before.before.before.before.before.loop-st.invariant.long.0 ∙ c.before.before.before.before.before.before.before.before.before.before.before.before.before.before.before.before.before.before.before.before.before.before.before.before.take_root-root.auto.tape
 
 same-length-8 : tie.Need-shape_of-side-then-step-eq0 invariant-loop decreases-loop
-same-length-8 c = c.before.before.before.before.before.before.take_start-step.auto.1.1.1.1.1.1.1.1.1.1.0 ∙ c.before.before.before.before.before.before.before.before.before.before.before.before.before.before.before.before.loop-st.invariant.long.1 ∙ c.before.before.before.before.before.before.before.before.before.before.before.before.before.before.before.before.before.before.before.before.before.before.before.before.take_root-root.auto.1.1.1.1.1.1.1.0
+same-length-8 c = c.before.before.before.before.before.before.take_start-step.auto.side ∙ c.before.before.before.before.before.before.before.before.before.before.before.before.before.before.before.before.loop-st.invariant.long.1 ∙ c.before.before.before.before.before.before.before.before.before.before.before.before.before.before.before.before.before.before.before.before.before.before.before.before.take_root-root.auto.side
 
 returns-4 : tie.Need-returns-then-step-eq0 invariant-loop decreases-loop
 returns-4 c = λ n. absurd (n refl)
@@ -116,16 +116,16 @@ loop-less-2 c =
 loop-again-2 : tie.Need-loop-st-preserved invariant-loop decreases-loop
 loop-again-2 c =
     let X = c.before.before.before.before.before.before.before.take_start-step.ensures c.before.if-step-eq0.false in
-    on_step c.before.before.before.before.before.before.before.before.before.before.before.before.before.before.before.before.before.loop-st.invariant X c.before.before.before.before.before.before.before.take_start-step.auto.1.1.1.1.1.1.1.1.0 c.before.before.before.before.before.before.before.take_start-step.auto.1.1.1.1.1.1.1.1.1.1.0
+    on_step c.before.before.before.before.before.before.before.before.before.before.before.before.before.before.before.before.before.loop-st.invariant X c.before.before.before.before.before.before.before.take_start-step.auto.tape c.before.before.before.before.before.before.before.take_start-step.auto.side
 
 spaces-end-requires-2 : tie.Need-spaces_end-requires invariant-loop decreases-loop
 spaces-end-requires-2 c κs = search rules
 
 same-length-9 : tie.Need-shape_of-tape-then-spaces_end-page invariant-loop decreases-loop
-same-length-9 c = c.before.before.before.before.loop-st.invariant.long.0 ∙ c.before.before.before.before.before.before.before.before.before.before.before.before.take_root-root.auto.1.1.1.1.1.0
+same-length-9 c = c.before.before.before.before.loop-st.invariant.long.0 ∙ c.before.before.before.before.before.before.before.before.before.before.before.before.take_root-root.auto.tape
 
 same-length-10 : tie.Need-shape_of-side-then-spaces_end-page invariant-loop decreases-loop
-same-length-10 c = c.before.before.before.before.loop-st.invariant.long.1 ∙ c.before.before.before.before.before.before.before.before.before.before.before.before.take_root-root.auto.1.1.1.1.1.1.1.0
+same-length-10 c = c.before.before.before.before.loop-st.invariant.long.1 ∙ c.before.before.before.before.before.before.before.before.before.before.before.before.take_root-root.auto.side
 
 returns-5 : tie.Need-returns-then-spaces_end-page invariant-loop decreases-loop
 returns-5 c = λ n. absurd (n refl)
@@ -134,10 +134,10 @@ finish-requires : tie.Need-finish-worst-requires invariant-loop decreases-loop
 finish-requires c κs = search rules
 
 same-length-11 : tie.Need-shape_of-tape-then-worst-eq-NO_FAULT invariant-loop decreases-loop
-same-length-11 c = c.before.before.before.before.before.before.before.loop-st.invariant.long.0 ∙ c.before.before.before.before.before.before.before.before.before.before.before.before.before.before.before.take_root-root.auto.1.1.1.1.1.0
+same-length-11 c = c.before.before.before.before.before.before.before.loop-st.invariant.long.0 ∙ c.before.before.before.before.before.before.before.before.before.before.before.before.before.before.before.take_root-root.auto.tape
 
 same-length-12 : tie.Need-shape_of-side-then-worst-eq-NO_FAULT invariant-loop decreases-loop
-same-length-12 c = c.before.before.before.before.before.before.before.loop-st.invariant.long.1 ∙ c.before.before.before.before.before.before.before.before.before.before.before.before.before.before.before.take_root-root.auto.1.1.1.1.1.1.1.0
+same-length-12 c = c.before.before.before.before.before.before.before.loop-st.invariant.long.1 ∙ c.before.before.before.before.before.before.before.before.before.before.before.before.before.before.before.take_root-root.auto.side
 
 returns-6 : tie.Need-returns-then-worst-eq-NO_FAULT invariant-loop decreases-loop
 returns-6 c = λ n.
@@ -149,10 +149,10 @@ returns-6 c = λ n.
     )
 
 same-length-13 : tie.Need-shape_of-tape invariant-loop decreases-loop
-same-length-13 c = c.before.before.before.before.before.before.before.loop-st.invariant.long.0 ∙ c.before.before.before.before.before.before.before.before.before.before.before.before.before.before.before.take_root-root.auto.1.1.1.1.1.0
+same-length-13 c = c.before.before.before.before.before.before.before.loop-st.invariant.long.0 ∙ c.before.before.before.before.before.before.before.before.before.before.before.before.before.before.before.take_root-root.auto.tape
 
 same-length-14 : tie.Need-shape_of-side invariant-loop decreases-loop
-same-length-14 c = c.before.before.before.before.before.before.before.loop-st.invariant.long.1 ∙ c.before.before.before.before.before.before.before.before.before.before.before.before.before.before.before.take_root-root.auto.1.1.1.1.1.1.1.0
+same-length-14 c = c.before.before.before.before.before.before.before.loop-st.invariant.long.1 ∙ c.before.before.before.before.before.before.before.before.before.before.before.before.before.before.before.take_root-root.auto.side
 
 returns-7 : tie.Need-returns invariant-loop decreases-loop
 returns-7 c = λ n. absurd (n refl)

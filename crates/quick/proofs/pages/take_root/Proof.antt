@@ -53,10 +53,10 @@ no-step-requires-3 : tie.Need-no_step-requires-then-x-eq0
 no-step-requires-3 c κs = search rules
 
 same_length : tie.Need-shape_of-tape-then-x-eq0
-same_length c = c.before.before.before.before.before.before.take_tag-tag.auto.1.1.1.1.1.1.1.1.0
+same_length c = c.before.before.before.before.before.before.take_tag-tag.auto.tape
 
 same-length-2 : tie.Need-shape_of-side-then-x-eq0
-same-length-2 c = c.before.before.before.before.before.before.take_tag-tag.auto.1.1.1.1.1.1.1.1.1.1.0
+same-length-2 c = c.before.before.before.before.before.before.take_tag-tag.auto.side
 
 returns-3 : tie.Need-returns-then-x-eq0
 returns-3 c = λ n. absurd (n c.no_step-then-x-eq0.ensures)
@@ -68,10 +68,10 @@ no-step-requires-4 : tie.Need-no_step-requires-then-page-x-ne62
 no-step-requires-4 c κs = search rules
 
 same-length-3 : tie.Need-shape_of-tape-then-page-x-ne62
-same-length-3 c = c.before.before.before.before.before.before.before.before.take_tag-tag.auto.1.1.1.1.1.1.1.1.0
+same-length-3 c = c.before.before.before.before.before.before.before.before.take_tag-tag.auto.tape
 
 same-length-4 : tie.Need-shape_of-side-then-page-x-ne62
-same-length-4 c = c.before.before.before.before.before.before.before.before.take_tag-tag.auto.1.1.1.1.1.1.1.1.1.1.0
+same-length-4 c = c.before.before.before.before.before.before.before.before.take_tag-tag.auto.side
 
 returns-4 : tie.Need-returns-then-page-x-ne62
 returns-4 c = λ n. absurd (n c.no_step-then-page-x-ne62.ensures)
@@ -86,10 +86,10 @@ add-t18 : tie.Need-overflow_add-result
 add-t18 c = omega (arith, (c.before.before.before.before.before.before.before.before.take_tag-tag.ensures c.before.before.before.if-x-eq0.false).within.1, c.before.before.before.before.before.before.before.before.before.before.before.before.before.before.before.before.before.before.before.before.requires.1)
 
 same-length-5 : tie.Need-shape_of-tape
-same-length-5 c = c.before.before.before.before.before.before.before.before.take_tag-tag.auto.1.1.1.1.1.1.1.1.0
+same-length-5 c = c.before.before.before.before.before.before.before.before.take_tag-tag.auto.tape
 
 same-length-6 : tie.Need-shape_of-side
-same-length-6 c = c.before.before.before.before.before.before.before.before.take_tag-tag.auto.1.1.1.1.1.1.1.1.1.1.0
+same-length-6 c = c.before.before.before.before.before.before.before.before.take_tag-tag.auto.side
 
 returns-5 : tie.Need-returns
 returns-5 c = λ n.
@@ -98,7 +98,7 @@ returns-5 c = λ n.
     let T = c.before.before.before.before.before.before.before.before.take_tag-tag.ensures c.before.before.before.if-x-eq0.false in
     let E = c.enter-st.ensures in
     on_first c.before.before.before.before.before.before.before.before.before.before.before.before.before.before.before.spaces_end-p.ensures.0 (less (c.before.before.before.before.before.before.before.before.before.before.before.before.before)) (sym b ∙ c.before.before.before.before.before.before.before.before.before.before.before.before.before.if-byte_or-ne60.false) N T _ _ c.before.if-page-x-ne62.false c.before.before.before.before.before.before.before.before.before.before.before.before.before.before.before.before.before-outside.ensures.0 (E.0 T.said T.fine T.needy) E.1
-    c.before.before.before.before.before.before.before.before.take_tag-tag.auto.1.1.1.1.1.1.1.1.0 c.before.before.before.before.before.before.before.before.take_tag-tag.auto.1.1.1.1.1.1.1.1.1.1.0
+    c.before.before.before.before.before.before.before.before.take_tag-tag.auto.tape c.before.before.before.before.before.before.before.before.take_tag-tag.auto.side
 
 pub take_root_spec : {M : Type 1} → statement M
 take_root_spec =

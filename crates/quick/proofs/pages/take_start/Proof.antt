@@ -55,10 +55,10 @@ no-step-requires-4 : tie.Need-no_step-requires-then-x-eq0
 no-step-requires-4 c κs = search rules
 
 same_length : tie.Need-shape_of-tape-then-x-eq0
-same_length c = c.before.before.before.before.before.before.take_tag-tag.auto.1.1.1.1.1.1.1.1.0
+same_length c = c.before.before.before.before.before.before.take_tag-tag.auto.tape
 
 same-length-2 : tie.Need-shape_of-side-then-x-eq0
-same-length-2 c = c.before.before.before.before.before.before.take_tag-tag.auto.1.1.1.1.1.1.1.1.1.1.0
+same-length-2 c = c.before.before.before.before.before.before.take_tag-tag.auto.side
 
 returns-4 : tie.Need-returns-then-x-eq0
 returns-4 c = λ n. absurd (n c.no_step-then-x-eq0.ensures)
@@ -76,10 +76,10 @@ add-t29 : tie.Need-overflow_add-result
 add-t29 c = omega (arith, (c.before.before.before.before.before.before.before.before.take_tag-tag.ensures c.before.before.before.if-x-eq0.false).within.1, c.before.before.before.before.before.before.before.before.before.before.before.before.before.before.before.before.before.before.before.before.requires.4)
 
 same-length-3 : tie.Need-shape_of-tape-then-page-x-eq62
-same-length-3 c = c.before.before.before.before.before.before.before.before.take_tag-tag.auto.1.1.1.1.1.1.1.1.0
+same-length-3 c = c.before.before.before.before.before.before.before.before.take_tag-tag.auto.tape
 
 same-length-4 : tie.Need-shape_of-side-then-page-x-eq62
-same-length-4 c = c.before.before.before.before.before.before.before.before.take_tag-tag.auto.1.1.1.1.1.1.1.1.1.1.0
+same-length-4 c = c.before.before.before.before.before.before.before.before.take_tag-tag.auto.side
 
 returns-5 : tie.Need-returns-then-page-x-eq62
 returns-5 c = λ n.
@@ -99,10 +99,10 @@ no-step-requires-5 : tie.Need-no_step-requires-then-page-x-ne47
 no-step-requires-5 c κs = search rules
 
 same-length-5 : tie.Need-shape_of-tape-then-page-x-ne47
-same-length-5 c = c.before.before.before.before.before.before.before.before.before.before.take_tag-tag.auto.1.1.1.1.1.1.1.1.0
+same-length-5 c = c.before.before.before.before.before.before.before.before.before.before.take_tag-tag.auto.tape
 
 same-length-6 : tie.Need-shape_of-side-then-page-x-ne47
-same-length-6 c = c.before.before.before.before.before.before.before.before.before.before.take_tag-tag.auto.1.1.1.1.1.1.1.1.1.1.0
+same-length-6 c = c.before.before.before.before.before.before.before.before.before.before.take_tag-tag.auto.side
 
 returns-6 : tie.Need-returns-then-page-x-ne47
 returns-6 c = λ n. absurd (n c.no_step-then-page-x-ne47.ensures)
@@ -117,10 +117,10 @@ no-step-requires-6 : tie.Need-no_step-requires-then-byte_or-ne62
 no-step-requires-6 c κs = search rules
 
 same-length-7 : tie.Need-shape_of-tape-then-byte_or-ne62
-same-length-7 c = c.before.before.before.before.before.before.before.before.before.before.before.before.take_tag-tag.auto.1.1.1.1.1.1.1.1.0
+same-length-7 c = c.before.before.before.before.before.before.before.before.before.before.before.before.take_tag-tag.auto.tape
 
 same-length-8 : tie.Need-shape_of-side-then-byte_or-ne62
-same-length-8 c = c.before.before.before.before.before.before.before.before.before.before.before.before.take_tag-tag.auto.1.1.1.1.1.1.1.1.1.1.0
+same-length-8 c = c.before.before.before.before.before.before.before.before.before.before.before.before.take_tag-tag.auto.side
 
 returns-7 : tie.Need-returns-then-byte_or-ne62
 returns-7 c = λ n. absurd (n c.no_step-then-byte_or-ne62.ensures)
@@ -135,10 +135,10 @@ add-t19 : tie.Need-overflow_add-result-2
 add-t19 c = omega (arith, (c.before.before.before.before.before.before.before.before.before.before.before.before.take_tag-tag.ensures c.before.before.before.before.before.before.before.if-x-eq0.false).within.1, c.before.before.before.before.before.before.before.before.before.before.before.before.before.before.before.before.before.before.before.before.before.before.before.before.requires.4)
 
 same-length-9 : tie.Need-shape_of-tape
-same-length-9 c = c.before.before.before.before.before.before.before.before.before.before.before.before.take_tag-tag.auto.1.1.1.1.1.1.1.1.0
+same-length-9 c = c.before.before.before.before.before.before.before.before.before.before.before.before.take_tag-tag.auto.tape
 
 same-length-10 : tie.Need-shape_of-side
-same-length-10 c = c.before.before.before.before.before.before.before.before.before.before.before.before.take_tag-tag.auto.1.1.1.1.1.1.1.1.1.1.0
+same-length-10 c = c.before.before.before.before.before.before.before.before.before.before.before.before.take_tag-tag.auto.side
 
 returns-8 : tie.Need-returns
 returns-8 c = λ n.

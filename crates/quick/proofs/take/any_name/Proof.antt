@@ -104,7 +104,7 @@ returns-4 c = λ n.
     let U2 = c.before.before.before.before.before.before.run-u.ensures in
     let X = c.before.before.before.run-v.ensures in
     let b = c.before.before.before.before.before.before.before.before.before.before.before.before.before.before.before.byte_or.ensures in
-    let l : is_letter (get_or w a 0) ≡ true = rw b at (c.before.before.before.before.before.before.before.before.before.before.before.before.before.before.is_letter.ensures (not-false _ c.before.before.before.before.before.before.before.before.before.before.before.before.before.if-not-is_letter.false)) in
+    let l : is_letter (get_or w a 0) ≡ true = rw b at (c.before.before.before.before.before.before.before.before.before.before.before.before.before.before.is_letter.ensures c.before.before.before.before.before.before.before.before.before.before.before.before.before.if-not-is_letter.false) in
     let ae = begins w a e l R.0 in
     let F = c.before.before.before.before.before.before.before.before.before.field_by-j in
     record {

@@ -93,7 +93,7 @@ returns-4 c = λ n.
     let E = c.before.before.before.before.before.before.before.before.before.take_value-judged.ensures c.before.before.before.before.before.if-judged-eq0.false in
     let val = E.0 in
     let f : j ≡ place_in N.name (fields_of k) = N.field in
-    let free = eqb-true _ 0 (sym c.before.before.before.before.before.before.before.before.before.before.before.before.before.before.is_free.ensures ∙ not-false _ c.before.before.before.before.before.before.before.before.before.before.before.before.before.if-not-is_free.false) in
+    let free = eqb-true _ 0 (sym c.before.before.before.before.before.before.before.before.before.before.before.before.before.before.is_free.ensures ∙ c.before.before.before.before.before.before.before.before.before.before.before.before.before.if-not-is_free.false) in
     let id : c.before.before.before.before.before.before.before.before.before.before.before.before.first_in.result + j ≡ first_of k + place_in N.name (fields_of k) = rw (c.before.before.before.before.before.before.before.before.before.before.before.before.first_in.ensures, f) in
     record {
       name = N.name;

@@ -45,7 +45,7 @@ byte-or-requires : tie.Need-byte_or-c-requires invariant-loop decreases-loop
 byte-or-requires c κs = search rules
 
 same_length : tie.Need-shape_of-tape-then-c-eq62 invariant-loop decreases-loop
-same_length c = c.before.before.before.before.loop-i.invariant.wide.1 ∙ c.before.before.before.before.before.before.before.clear.auto.0
+same_length c = c.before.before.before.before.loop-i.invariant.wide.1 ∙ c.before.before.before.before.before.before.before.clear.auto.numbers
 
 same-length-2 : tie.Need-shape_of-side-then-c-eq62 invariant-loop decreases-loop
 same-length-2 c = c.before.before.before.before.loop-i.invariant.room.1
@@ -59,7 +59,7 @@ returns c = λ n.
     inside_from_lem c.before.before.before.before.before.before.before.clear.ensures.0 (inside_in c.before.before.before.before.loop-i.invariant a R.0 R.1 (in_it w a (λ z. omega (arith, b, z, c.if-c-eq62.true))))
 
 same-length-3 : tie.Need-shape_of-tape-then-c-eq47 invariant-loop decreases-loop
-same-length-3 c = c.before.before.before.before.before.loop-i.invariant.wide.1 ∙ c.before.before.before.before.before.before.before.before.clear.auto.0
+same-length-3 c = c.before.before.before.before.before.loop-i.invariant.wide.1 ∙ c.before.before.before.before.before.before.before.before.clear.auto.numbers
 
 same-length-4 : tie.Need-shape_of-side-then-c-eq47 invariant-loop decreases-loop
 same-length-4 c = c.before.before.before.before.before.loop-i.invariant.room.1
@@ -73,7 +73,7 @@ returns-2 c = λ n.
     inside_from_lem c.before.before.before.before.before.before.before.before.clear.ensures.0 (inside_in c.before.before.before.before.before.loop-i.invariant a R.0 R.1 (in_it w a (λ z. omega (arith, b, z, c.if-c-eq47.true))))
 
 same-length-5 : tie.Need-shape_of-tape-then-a-i invariant-loop decreases-loop
-same-length-5 c = c.before.before.before.before.before.before.loop-i.invariant.wide.1 ∙ c.before.before.before.before.before.before.before.before.before.clear.auto.0
+same-length-5 c = c.before.before.before.before.before.before.loop-i.invariant.wide.1 ∙ c.before.before.before.before.before.before.before.before.before.clear.auto.numbers
 
 same-length-6 : tie.Need-shape_of-side-then-a-i invariant-loop decreases-loop
 same-length-6 c = c.before.before.before.before.before.before.loop-i.invariant.room.1
@@ -86,13 +86,13 @@ take-attr-requires c κs =
     let S = c.before.before.before.before.before.before.before.before.before.before.before.before.before.before.before.before.before in
     let H = c.before.before.before.before.before.before.before.before.loop-i.invariant in
     let R = c.before.before.before.before.before.before.spaces_end-a.ensures in
-    (R.2 H.within.1, S.requires.1, S.requires.2, S.requires.3, S.requires.4, H.wide.0, omega (arith, S.requires.6, H.wide.1, c.before.before.before.before.before.before.before.before.before.before.before.clear.auto.0), H.room.0, omega (arith, S.requires.8, H.room.1))
+    (R.2 H.within.1, S.requires.1, S.requires.2, S.requires.3, S.requires.4, H.wide.0, omega (arith, S.requires.6, H.wide.1, c.before.before.before.before.before.before.before.before.before.before.before.clear.auto.numbers), H.room.0, omega (arith, S.requires.8, H.room.1))
 
 same-length-7 : tie.Need-shape_of-tape-then-taken-eq0 invariant-loop decreases-loop
-same-length-7 c = c.before.before.before.before.before.before.take_attr-taken.auto.1.1.1.1.1.1.1.0 ∙ c.before.before.before.before.before.before.before.before.before.before.before.before.before.before.before.loop-i.invariant.wide.1 ∙ c.before.before.before.before.before.before.before.before.before.before.before.before.before.before.before.before.before.before.clear.auto.0
+same-length-7 c = c.before.before.before.before.before.before.take_attr-taken.auto.tape ∙ c.before.before.before.before.before.before.before.before.before.before.before.before.before.before.before.loop-i.invariant.wide.1 ∙ c.before.before.before.before.before.before.before.before.before.before.before.before.before.before.before.before.before.before.clear.auto.numbers
 
 same-length-8 : tie.Need-shape_of-side-then-taken-eq0 invariant-loop decreases-loop
-same-length-8 c = c.before.before.before.before.before.before.take_attr-taken.auto.1.1.1.1.1.1.1.1.1.0 ∙ c.before.before.before.before.before.before.before.before.before.before.before.before.before.before.before.loop-i.invariant.room.1
+same-length-8 c = c.before.before.before.before.before.before.take_attr-taken.auto.side ∙ c.before.before.before.before.before.before.before.before.before.before.before.before.before.before.before.loop-i.invariant.room.1
 
 returns-4 : tie.Need-returns-then-taken-eq0 invariant-loop decreases-loop
 returns-4 c = λ n. absurd (n refl)
@@ -107,10 +107,10 @@ loop-again : tie.Need-loop-i-preserved invariant-loop decreases-loop
 loop-again c =
     let A = c.before.before.before.before.before.before.take_attr-taken.ensures c.if-taken-eq0.false in
     let R = c.before.before.before.before.before.before.before.before.before.before.before.before.before.spaces_end-a.ensures in
-    again_in_lem c.before.before.before.before.before.before.before.before.before.before.before.before.before.before.before.loop-i.invariant c.before.before.before.before.before.before.before.before.before.before.before.before.before.spaces_end-a.result R.0 _ _ _ _ (omega (arith, R.1, c.before.before.before.before.before.before.before.before.before.if-a-i.false)) c.before.before.before.before.before.before.take_attr-taken.auto.1.1.1.1.1.1.1.1.1.0 A
+    again_in_lem c.before.before.before.before.before.before.before.before.before.before.before.before.before.before.before.loop-i.invariant c.before.before.before.before.before.before.before.before.before.before.before.before.before.spaces_end-a.result R.0 _ _ _ _ (omega (arith, R.1, c.before.before.before.before.before.before.before.before.before.if-a-i.false)) c.before.before.before.before.before.before.take_attr-taken.auto.side A
 
 same-length-9 : tie.Need-shape_of-tape invariant-loop decreases-loop
-same-length-9 c = c.before.loop-i.invariant.wide.1 ∙ c.before.before.before.before.clear.auto.0
+same-length-9 c = c.before.loop-i.invariant.wide.1 ∙ c.before.before.before.before.clear.auto.numbers
 
 same-length-10 : tie.Need-shape_of-side invariant-loop decreases-loop
 same-length-10 c = c.before.loop-i.invariant.room.1

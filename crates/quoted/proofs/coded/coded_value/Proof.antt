@@ -19,7 +19,7 @@ abbrev decreases-loop : tie.decreases-loop-i
 decreases-loop page from q odd side₀ used i₀ n₀ k₀ side i n k = length page - i
 
 -- what is laid behind the ordinary bytes
-ran : (c : tie.After-shared_slice_known-in-loop-i-1 invariant-loop decreases-loop) → Coding c.before.before.before.before.before.before.before.before.before.before.before.before.before.args.page.now c.before.before.before.before.before.before.before.before.before.before.before.before.before.args.side.now c.before.before.before.lay-m.new.0 c.before.before.before.before.before.before.before.before.before.before.before.before.before.args.from c.before.before.before.before.before.before.before.before.before.before.before.before.before.args.q c.before.before.before.before.before.before.before.before.before.before.before.before.before.args.used
+ran : (c : tie.After-shared_slice_known-in-loop-i-1 invariant-loop decreases-loop) → Coding c.before.before.before.before.before.before.before.before.before.before.before.before.before.args.page.now c.before.before.before.before.before.before.before.before.before.before.before.before.before.args.side.now c.before.before.before.lay-m.new.out c.before.before.before.before.before.before.before.before.before.before.before.before.before.args.from c.before.before.before.before.before.before.before.before.before.before.before.before.before.args.q c.before.before.before.before.before.before.before.before.before.before.before.before.before.args.used
     c.before.before.before.before.before.before.before.before.ordinary_end-e.result c.before.before.before.lay-m.result c.before.before.before.before.before.before.before.before.before.before.loop-i.k
 ran c =
     let O = c.before.before.before.before.before.before.before.before.ordinary_end-e.ensures in
@@ -28,7 +28,7 @@ ran c =
     coding_lay c.before.before.before.before.before.before.before.before.before.before.before.before.before.requires.3 H _ _ _ _ O.0 O.1 O.2 (omega (arith, c.before.before.before.before.before.before.if-side-n.false, H.fits)) (part_is c.before.before.before.before.before.before.before.before.before.before.before.before.before.args.page.now c.before.before.before.before.before.before.before.before.before.before.loop-i.i c.before.before.before.before.before.before.before.before.ordinary_end-e.result) D.ensures.0 D.ensures.1
 
 -- there is room for one byte more
-room-left : (c : tie.After-breaks_of invariant-loop decreases-loop) → c.before.before.before.before.before.before.before.before.lay-m.result < length c.before.before.before.before.before.before.before.before.lay-m.new.0
+room-left : (c : tie.After-breaks_of invariant-loop decreases-loop) → c.before.before.before.before.before.before.before.before.lay-m.result < length c.before.before.before.before.before.before.before.before.lay-m.new.out
 room-left c =
     let w = c.before.before.before.before.before.before.before.before.before.before.before.before.before.before.before.before.before.before.args.page.now in
     let O = c.before.before.before.before.before.before.before.before.before.before.before.before.before.ordinary_end-e.ensures in

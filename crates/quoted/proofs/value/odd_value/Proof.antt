@@ -32,7 +32,7 @@ returns-2 c = λ n.
     let S = c.before.before.before.before.before.before.before.before.before.before in
     let C = c.before.before.before.before.before.before.coded_value-coded.ensures c.before.before.if-coded-eq0.false in
     let id = S.args.id in
-    let long = c.before.before.before.before.before.before.coded_value-coded.auto.1.1.1.1.0 in
+    let long = c.before.before.before.before.before.before.coded_value-coded.auto.side in
     let e = settled_none (field_at id) _ (sym c.before.is_absent.ensures ∙ c.if-is_absent.true) in (
       none_there S.args.page.now S.args.at S.args.q id _ C.raw S.requires.0 S.requires.2 _ S.args.used (omega (arith, S.requires.6, long)) (e ∙ ap (settle (field_at id)) C.right),
       record { same = C.same; up = omega arith },
@@ -68,11 +68,11 @@ returns-4 c = λ n.
     let id = S.args.id in
     let m = S.args.used in
     let z = c.before.before.before.before.before.before.before.before.before.before.before.coded_value-coded.result.end in
-    let long = c.before.before.before.before.before.before.before.before.before.before.before.coded_value-coded.auto.1.1.1.1.0 in
+    let long = c.before.before.before.before.before.before.before.before.before.before.before.coded_value-coded.auto.side in
     let a = sym c.before.before.before.before.before.before.is_absent.ensures ∙ c.before.before.before.before.before.if-is_absent.false in
     let e = settled_some (field_at id) _ a in (
       in_side S.args.page.now S.args.at S.args.q id _ C.raw S.requires.0 S.requires.2 _ m z
-          (not_empty (field_at id) c.before.before.before.before.before.before.before.before.before.before.before.coded_value-coded.new.1.1.1.1.0 m z C.within.0 a) C.within.1 (omega (arith, S.requires.7, long)) C.right e
+          (not_empty (field_at id) c.before.before.before.before.before.before.before.before.before.before.before.coded_value-coded.new.side m z C.within.0 a) C.within.1 (omega (arith, S.requires.7, long)) C.right e
           (c.before.keeps_text.ensures c.if-keeps_text.true),
       record { same = C.same; up = C.within.0 },
       omega (arith, C.short),

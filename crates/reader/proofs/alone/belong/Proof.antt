@@ -63,7 +63,7 @@ slice-aggregate-alike-2 c = search rules
 alike-requires : tie.Need-alike-requires
 alike-requires c κs =
     let start = c.before.before.before.before.before.before.before.before.before.before.before.before.before.before.before.before.before.before.before.before.before.before.before in
-    (c.before.before.before.before.before.find-Head.ensures, (page_good _ _ start.requires.0).fit, c.before.before.find_head-k.ensures, (page_good _ _ start.requires.1).fit)
+    (c.before.before.before.before.before.find_head-h.ensures, (page_good _ _ start.requires.0).fit, c.before.before.find_head-k.ensures, (page_good _ _ start.requires.1).fit)
 
 returns : tie.Need-returns
 returns c = search rules

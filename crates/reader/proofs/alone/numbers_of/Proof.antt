@@ -32,7 +32,7 @@ slice-aggregate-find-head-2 c = search rules
 find-head-requires : tie.Need-find_head-h-requires
 find-head-requires c κs =
     let at-lay-page = c.before.before.before.before in
-    made_read at-lay-page.lay_page-made.ensures.0 (blank_new 4420 (omega arith)) (omega arith) at-lay-page.lay_page-made.auto.1.1.0
+    made_read at-lay-page.lay_page-made.ensures.0 (blank_new 4420 (omega arith)) (omega arith) at-lay-page.lay_page-made.auto.tape
 
 slice-aggregate-number-of : tie.Need-slice_bounds-number_of-end
 slice-aggregate-number-of c = search rules
@@ -41,7 +41,7 @@ slice-aggregate-number-of-2 : tie.Need-slice_bounds-number_of-end-2
 slice-aggregate-number-of-2 c = search rules
 
 number-of-requires : tie.Need-number_of-no-requires
-number-of-requires c κs = (c.before.before.find-Head.ensures.mp_at, (fits-at c.before.before.before.before.before.before.before.before.before.before.before.before.before).fit)
+number-of-requires c κs = (c.before.before.find_head-h.ensures.mp_at, (fits-at c.before.before.before.before.before.before.before.before.before.before.before.before.before).fit)
 
 slice-aggregate-count-said : tie.Need-slice_bounds-count_said-end
 slice-aggregate-count-said c = search rules
@@ -50,7 +50,7 @@ slice-aggregate-count-said-2 : tie.Need-slice_bounds-count_said-end-2
 slice-aggregate-count-said-2 c = search rules
 
 count-said-requires : tie.Need-count_said-of-requires
-count-said-requires c κs = (c.before.before.before.before.before.find-Head.ensures.mp_at, (fits-at c.before.before.before.before.before.before.before.before.before.before.before.before.before.before.before.before).fit)
+count-said-requires c κs = (c.before.before.before.before.before.find_head-h.ensures.mp_at, (fits-at c.before.before.before.before.before.before.before.before.before.before.before.before.before.before.before.before).fit)
 
 cast-t27 : tie.Need-overflow_cast-result
 cast-t27 c = omega (arith, c.before.before.before.number_of_lem.ensures, (fits-at c.before.before.before.before.before.before.before.before.before.before.before.before.before.before.before.before.before).no_small)

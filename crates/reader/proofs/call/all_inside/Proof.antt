@@ -41,7 +41,7 @@ returns-2 : tie.Need-returns-then-not-lies_in invariant-loop decreases-loop
 returns-2 c =
     let L = c.before.before.before.before.before in
     let a = L.before.before.before.before.before.args in
-    sym (L.loop-i.invariant.1.1.1.1 ∙ outside a.buffer.now a.starts.now a.lens.now L.loop-i.i L.loop-i.invariant.1.1.0 (search rules) (sym c.before.lies_in.ensures ∙ not-true _ c.if-not-lies_in.true))
+    sym (L.loop-i.invariant.1.1.1.1 ∙ outside a.buffer.now a.starts.now a.lens.now L.loop-i.i L.loop-i.invariant.1.1.0 (search rules) (sym c.before.lies_in.ensures ∙ c.if-not-lies_in.true))
 
 add-i : tie.Need-overflow_add-i invariant-loop decreases-loop
 add-i c = search rules
@@ -54,7 +54,7 @@ loop-again c =
     let L = c.before.before.before.before.before in
     let a = L.before.before.before.before.before.args in
     let I = L.loop-i.invariant.1 in
-    (search rules, (I.0, (I.1.0, (I.1.1.0, I.1.1.1 ∙ within a.buffer.now a.starts.now a.lens.now L.loop-i.i I.1.0 (search rules) (sym c.before.lies_in.ensures ∙ not-false _ c.if-not-lies_in.false)))))
+    (search rules, (I.0, (I.1.0, (I.1.1.0, I.1.1.1 ∙ within a.buffer.now a.starts.now a.lens.now L.loop-i.i I.1.0 (search rules) (sym c.before.lies_in.ensures ∙ c.if-not-lies_in.false)))))
 
 returns-3 : tie.Need-returns invariant-loop decreases-loop
 returns-3 c =

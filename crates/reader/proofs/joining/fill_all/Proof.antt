@@ -44,15 +44,15 @@ lay-head-requires c κs =
     let at-fit = c.before.before.before.before.before in
     let S = c.before.before.before.before.before.before.before.before.before.before.before.before.before in
     let a = S.args in
-    (c.before.find-Head.ensures, (fits at-fit).fit, head_place (pages_at a.buffer.now a.starts.now a.lens.now) a.z (paged S) S.requires.4 _ _ at-fit.page_at-first.ensures S.requires.8 S.requires.9)
+    (c.before.find_head-places.ensures, (fits at-fit).fit, head_place (pages_at a.buffer.now a.starts.now a.lens.now) a.z (paged S) S.requires.4 _ _ at-fit.page_at-first.ensures S.requires.8 S.requires.9)
 
 fill-pages-requires : tie.Need-fill_pages-filled-requires
 fill-pages-requires c κs =
     let H = c.before.before.before.before in
     let S = c.before.before.before.before.before.before.before.before.before.before.before.before.before.before.before.before.before.before in
     let a = S.args in
-    let l : 12600 ≤ length H.lay_head-head.new.1.1.1.1.0 = omega (arith, S.requires.9, H.lay_head-head.auto.1.1.1.1.0) in
-    let P = rows_place (pages_at a.buffer.now a.starts.now a.lens.now) a.z (paged S) S.requires.4 _ H.lay_head-head.new.1.1.1.1.0 a.rows.now _ c.before.before.before.before.before.before.before.before.before.before.page_at-first.ensures S.requires.6 S.requires.7 S.requires.8 l H.lay_head-head.ensures.end_is in
+    let l : 12600 ≤ length H.lay_head-head.new.text = omega (arith, S.requires.9, H.lay_head-head.auto.text) in
+    let P = rows_place (pages_at a.buffer.now a.starts.now a.lens.now) a.z (paged S) S.requires.4 _ H.lay_head-head.new.text a.rows.now _ c.before.before.before.before.before.before.before.before.before.before.page_at-first.ensures S.requires.6 S.requires.7 S.requires.8 l H.lay_head-head.ensures.end_is in
     (S.requires.1, S.requires.2, S.requires.3, S.requires.5, P.room, P.records)
 
 cast-t28 : tie.Need-overflow_cast-result

@@ -72,7 +72,7 @@ returns-2 c =
     let a = start.args in
     let R = c.before.before.before.before in
     let q = page_rows (called start.requires.1) a.k (place c.before.before.before.before.before.before.before.before.before.before.before.before) c.before.before.before.before.before.before.before.before.before.before.before.if-p-count.false c.before.before.before.before.before.before.before.before.before.before.page_at-page.ensures in
-    subst (λ (r : List Row). Fills r a.text.now R.fill_rows.new.1.1.1.1.1.1.0 a.n R.fill_rows.result.end a.rows.now R.fill_rows.new.1.1.1.1.1.0 a.i R.fill_rows.result.row) (sym q) R.fill_rows.ensures
+    subst (λ (r : List Row). Fills r a.text.now R.fill_rows.new.text a.n R.fill_rows.result.end a.rows.now R.fill_rows.new.rows a.i R.fill_rows.result.row) (sym q) R.fill_rows.ensures
 
 pub fill_number_spec : {M : Type 1} → statement M
 fill_number_spec =

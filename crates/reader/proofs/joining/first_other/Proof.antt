@@ -37,7 +37,7 @@ add-result c = search rules
 returns : tie.Need-returns-then-not-like_first invariant-loop decreases-loop
 returns c =
     let start = c.before.before.before.before.before.before.before.before.before in
-    let L = c.before.before.before in sym (other_here_lem (pages_at start.args.buffer.now start.args.starts.now start.args.lens.now) L.loop-i.i (omega (arith, L.loop-i.invariant.2, c.before.before.loop-i-test.true)) L.loop-i.invariant.3 (sym c.before.like_first.ensures ∙ no_not _ c.if-not-like_first.true))
+    let L = c.before.before.before in sym (other_here_lem (pages_at start.args.buffer.now start.args.starts.now start.args.lens.now) L.loop-i.i (omega (arith, L.loop-i.invariant.2, c.before.before.loop-i-test.true)) L.loop-i.invariant.3 (sym c.before.like_first.ensures ∙ c.if-not-like_first.true))
 
 add-i : tie.Need-overflow_add-i invariant-loop decreases-loop
 add-i c = search rules

@@ -46,12 +46,12 @@ find-head-requires c κs =
     read_at start.requires.2 0 (one start) c.before.before.before.page_at-first.ensures
 
 count-said-requires : tie.Need-count_said-of-requires
-count-said-requires c κs = (c.find-Head.ensures.mp_at, (fits c.before.before.before.before).fit)
+count-said-requires c κs = (c.find_head-h.ensures.mp_at, (fits c.before.before.before.before).fit)
 
 first-other-requires : tie.Need-first_other-other-requires
 first-other-requires c κs =
     let start = c.before.before.before.before.before.before.before.before.before.before.before in
-    (start.requires.0, start.requires.1, start.requires.2, subst (λ (w : List ℕ). HeadAt w start.args.side.now start.args.tape.now c.before.find-Head.result) c.before.before.before.before.before.page_at-first.ensures c.before.find-Head.ensures)
+    (start.requires.0, start.requires.1, start.requires.2, subst (λ (w : List ℕ). HeadAt w start.args.side.now start.args.tape.now c.before.find_head-h.result) c.before.before.before.before.before.page_at-first.ensures c.before.find_head-h.ensures)
 
 numbers-requires : tie.Need-numbers-nos-requires
 numbers-requires c κs =

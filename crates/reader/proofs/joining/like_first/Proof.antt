@@ -54,7 +54,7 @@ alike-requires c κs =
     let two = c.before.before.before.before.page_at-two.ensures in (
       subst (λ (w : List ℕ). HeadAt w s.args.side.now s.args.tape.now s.args.h) (sym one) s.requires.2,
       (page_fits {i = 0} T (omega (arith, s.requires.0)) one).fit,
-      c.find-Head.ensures,
+      c.find_head-k.ensures,
       (page_fits T s.requires.0 two).fit,
     )
 

@@ -46,7 +46,7 @@ find-head-requires c κs =
     read_at start.requires.1 start.args.i start.requires.0 c.before.before.before.page_at-page.ensures
 
 number-of-requires : tie.Need-number_of-no-requires
-number-of-requires c κs = (c.find-Head.ensures.mp_at, (fits c.before.before.before.before).fit)
+number-of-requires c κs = (c.find_head-h.ensures.mp_at, (fits c.before.before.before.before).fit)
 
 cast-result : tie.Need-overflow_cast-result
 cast-result c = omega (arith, c.number_of_lem.ensures, (fits c.before.before.before.before.before).no_small)

@@ -21,7 +21,7 @@ returns : tie.Need-returns-then-not-room_fits
 returns c =
     let s = c.before.before.before.before.before.before.before.before.args in
     refuses (answered s.rows.now s.text.now s.buffer.now s.starts.now s.lens.now) s.rows.now s.text.now 1 0 0
-    (no_room s.rows.now s.text.now _ _ _ (sym c.before.before.room_fits.ensures ∙ not-true _ c.before.if-not-room_fits.true)) _ refl c.empty.ensures
+    (no_room s.rows.now s.text.now _ _ _ (sym c.before.before.room_fits.ensures ∙ c.before.if-not-room_fits.true)) _ refl c.empty.ensures
 
 call-fits-requires : tie.Need-call_fits-requires
 call-fits-requires c κs = search rules
@@ -33,7 +33,7 @@ returns-2 : tie.Need-returns-then-not-call_fits
 returns-2 c =
     let s = c.before.before.before.before.before.before.before.before.before.before.args in
     refuses (answered s.rows.now s.text.now s.buffer.now s.starts.now s.lens.now) s.rows.now s.text.now 1 0 0
-    (no_call s.rows.now s.text.now _ _ _ (sym c.before.before.call_fits.ensures ∙ not-true _ c.before.if-not-call_fits.true)) _ refl c.empty-then-not-call_fits.ensures
+    (no_call s.rows.now s.text.now _ _ _ (sym c.before.before.call_fits.ensures ∙ c.before.if-not-call_fits.true)) _ refl c.empty-then-not-call_fits.ensures
 
 slice-aggregate-read-on : tie.Need-slice_bounds-read_on-end
 slice-aggregate-read-on c = search rules
@@ -44,8 +44,8 @@ slice-aggregate-read-on-2 c = search rules
 read-on-requires : tie.Need-read_on-requires
 read-on-requires c κs =
     let at-if3 = c.before.before.before.before in
-    let room = sym c.before.before.before.before.before.before.before.before.room_fits.ensures ∙ not-false _ c.before.before.before.before.before.before.before.if-not-room_fits.false in
-    let call = sym c.before.before.before.before.before.before.call_fits.ensures ∙ not-false _ c.before.before.before.before.before.if-not-call_fits.false in
+    let room = sym c.before.before.before.before.before.before.before.before.room_fits.ensures ∙ c.before.before.before.before.before.before.before.if-not-room_fits.false in
+    let call = sym c.before.before.before.before.before.before.call_fits.ensures ∙ c.before.before.before.before.before.if-not-call_fits.false in
     (room, call, blank_new 4420 (omega arith), omega (arith, at-if3.if-starts-eq1.true), omega arith, omega (arith, at-if3.if-starts-eq1.true), omega arith)
 
 same_length : tie.Need-shape_of-rows-then-starts-eq1
@@ -66,8 +66,8 @@ slice-aggregate-read-on-4 c = search rules
 read-on-requires-2 : tie.Need-read_on-requires-2
 read-on-requires-2 c κs =
     let s = c.before.before.before.before.before.before.before.before.before.before.before.before.before.before.args in
-    let room = sym c.before.before.before.before.before.before.before.before.room_fits.ensures ∙ not-false _ c.before.before.before.before.before.before.before.if-not-room_fits.false in
-    let call = sym c.before.before.before.before.before.before.call_fits.ensures ∙ not-false _ c.before.before.before.before.before.if-not-call_fits.false in
+    let room = sym c.before.before.before.before.before.before.before.before.room_fits.ensures ∙ c.before.before.before.before.before.before.before.if-not-room_fits.false in
+    let call = sym c.before.before.before.before.before.before.call_fits.ensures ∙ c.before.before.before.before.before.if-not-call_fits.false in
     let F = call_fits_lem s.buffer.now s.starts.now s.lens.now call in
     (room, call, blank_new 39620 (omega arith), omega (arith, F.nine), omega arith, omega (arith, F.nine), omega arith)
 

@@ -69,7 +69,7 @@ returns-2 c =
     refuses (answered s.args.rows.now s.args.text.now s.args.buffer.now s.args.starts.now s.args.lens.now) s.args.rows.now s.args.text.now n k i (is_judged s.args.rows.now s.args.text.now _ _ _ s.requires.0 s.requires.1 ∙ e) _ a c.empty.ensures
 
 clear-requires : tie.Need-clear-requires
-clear-requires c κs = (omega arith, omega (arith, c.before.before.before.before.before.before.before.before.before.before.before.before.before.before.before.before.before.before.before.requires.2.long, c.before.before.before.before.before.before.before.before.before.take_all-taken.auto.1.1.1.0))
+clear-requires c κs = (omega arith, omega (arith, c.before.before.before.before.before.before.before.before.before.before.before.before.before.before.before.before.before.before.before.requires.2.long, c.before.before.before.before.before.before.before.before.before.take_all-taken.auto.tape))
 
 lay-all-requires : tie.Need-lay_all-firsts-requires
 lay-all-requires c κs =
@@ -95,10 +95,10 @@ read-tapes-requires-2 c κs =
     (start.requires.0, start.requires.1, c.before.before.before.before.before.before.before.lay_all-firsts.ensures)
 
 same-length-7 : tie.Need-shape_of-tape
-same-length-7 c = c.before.before.before.before.before.before.before.before.before.before.before.before.lay_all-firsts.auto.1.1.1.0 ∙ (c.before.before.before.before.before.before.before.before.before.before.before.before.before.before.before.before.before.clear.auto.0 ∙ c.before.before.before.before.before.before.before.before.before.before.before.before.before.before.before.before.before.before.before.before.before.before.before.before.before.before.before.take_all-taken.auto.1.1.1.0)
+same-length-7 c = c.before.before.before.before.before.before.before.before.before.before.before.before.lay_all-firsts.auto.tape ∙ (c.before.before.before.before.before.before.before.before.before.before.before.before.before.before.before.before.before.clear.auto.numbers ∙ c.before.before.before.before.before.before.before.before.before.before.before.before.before.before.before.before.before.before.before.before.before.before.before.before.before.before.before.take_all-taken.auto.tape)
 
 same-length-8 : tie.Need-shape_of-side
-same-length-8 c = c.before.before.before.before.before.before.before.before.before.before.before.before.lay_all-firsts.auto.1.1.1.1.0 ∙ c.before.before.before.before.before.before.before.before.before.before.before.before.before.before.before.before.before.before.before.before.before.before.before.before.before.before.before.take_all-taken.auto.1.1.1.1.0
+same-length-8 c = c.before.before.before.before.before.before.before.before.before.before.before.before.lay_all-firsts.auto.side ∙ c.before.before.before.before.before.before.before.before.before.before.before.before.before.before.before.before.before.before.before.before.before.before.before.before.before.before.before.take_all-taken.auto.side
 
 same-length-9 : tie.Need-shape_of-rows
 same-length-9 c = search rules

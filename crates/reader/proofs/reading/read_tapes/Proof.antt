@@ -36,7 +36,7 @@ module _ (s : tie.Start) where
 
   -- what is known where no page is refused
   ready : Joins s.args.rows.now s.args.text.now s.args.buffer.now s.args.starts.now s.args.lens.now
-  ready = joins _ _ _ _ _ s.pre.0 s.pre.1 Plan (none_refused s.pre.2) refl
+  ready = joins _ _ _ _ _ s.requires.0 s.requires.1 Plan (none_refused s.requires.2) refl
 
   -- a refusal
   refuse : (n k i : ℕ) → answer ≡ Paper.refusal n k i → (r : Reading) → numbers_of r.answer ≡ numbers n k i → r.plan ≡ empty_plan

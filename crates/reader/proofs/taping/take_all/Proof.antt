@@ -59,10 +59,10 @@ take-requires c κs =
     (record { keys_are = c.before.before.before.before.before.before.before.before.before.before.before.before.keys-keys.ensures; letters_are = c.before.before.before.before.before.before.before.before.before.before.before.letter_table-letters.ensures }, record { odd_is = c.before.before.before.before.before.before.before.before.before.before.odd_table-odd.ensures; limits_are = c.before.before.before.before.before.before.before.before.before.limits-limits.ensures }, v.going.inner, omega (arith, v.tape-long, s.3), v.going.used, omega (arith, v.side-long, s.4))
 
 same_length : tie.Need-shape_of-tape-then-made-eq0 invariant-loop decreases-loop
-same_length c = c.before.before.before.before.before.before.take-made.auto.1.1.1.1.1.0 ∙ c.before.before.before.before.before.before.before.before.before.before.before.before.before.before.before.loop-k.invariant.tape-long
+same_length c = c.before.before.before.before.before.before.take-made.auto.tape ∙ c.before.before.before.before.before.before.before.before.before.before.before.before.before.before.before.loop-k.invariant.tape-long
 
 same-length-2 : tie.Need-shape_of-side-then-made-eq0 invariant-loop decreases-loop
-same-length-2 c = c.before.before.before.before.before.before.take-made.auto.1.1.1.1.1.1.1.0 ∙ c.before.before.before.before.before.before.before.before.before.before.before.before.before.before.before.loop-k.invariant.side-long
+same-length-2 c = c.before.before.before.before.before.before.take-made.auto.side ∙ c.before.before.before.before.before.before.before.before.before.before.before.before.before.before.before.loop-k.invariant.side-long
 
 returns : tie.Need-returns-then-made-eq0 invariant-loop decreases-loop
 returns c = λ e. no (sym e)

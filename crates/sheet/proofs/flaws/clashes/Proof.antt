@@ -26,17 +26,17 @@ abbrev entry : tie.At-loop-i invariant-loop decreases-loop → tie.Start invaria
 entry L = L.before.before.before
 
 -- the numbers of a pair's fields are there
-one_inside : (c : tie.After-pair_one invariant-loop decreases-loop) → let S = entry c.before.before in S.args.base + 2 * c.Pair-one.result + 1 < length S.args.numbers.now
+one_inside : (c : tie.After-pair_one invariant-loop decreases-loop) → let S = entry c.before.before in S.args.base + 2 * c.pair_one.result + 1 < length S.args.numbers.now
 one_inside c =
     let I = c.before in
     let S = entry I.before in
-    omega (arith, S.pre.1, c.Pair-one.ensures, one_within _ _ _ S.pre.0 I.before.before.pairs_of-pairs.ensures I.loop-i-test.true)
+    omega (arith, S.requires.1, c.pair_one.ensures, one_within _ _ _ S.requires.0 I.before.before.pairs_of-pairs.ensures I.loop-i-test.true)
 
 other-inside : (c : tie.After-pair_other invariant-loop decreases-loop) → let S = entry c.before.before.before.before.before in S.args.base + 2 * c.pair_other.result + 1 < length S.args.numbers.now
 other-inside c =
     let I = c.before.before.before.before in
     let S = entry I.before in
-    omega (arith, S.pre.1, c.pair_other.ensures, other_within _ _ _ S.pre.0 I.before.before.pairs_of-pairs.ensures I.loop-i-test.true)
+    omega (arith, S.requires.1, c.pair_other.ensures, other_within _ _ _ S.requires.0 I.before.before.pairs_of-pairs.ensures I.loop-i-test.true)
 
 pairs-of-requires : tie.Need-pairs_of-pairs-requires invariant-loop decreases-loop
 pairs-of-requires c κs = search rules
@@ -70,7 +70,7 @@ loop-again : tie.Need-loop-i-preserved-then-one-eq0 invariant-loop decreases-loo
 loop-again c =
     let O = c.before.before in
     let L = O.before.before in
-    (search rules, L.loop-i.invariant.1 ∙ clash_no_one _ _ _ (entry L).requires.0 L.before.pairs_of-pairs.ensures O.before.loop-i-test.true _ _ _ _ O.Pair-one.ensures refl c.if-one-eq0.true)
+    (search rules, L.loop-i.invariant.1 ∙ clash_no_one _ _ _ (entry L).requires.0 L.before.pairs_of-pairs.ensures O.before.loop-i-test.true _ _ _ _ O.pair_one.ensures refl c.if-one-eq0.true)
 
 pair-other-requires : tie.Need-pair_other-requires invariant-loop decreases-loop
 pair-other-requires c κs = search rules
@@ -95,7 +95,7 @@ loop-again-2 c =
     let T = c.before.before in
     let O = T.before.before.before in
     let L = O.before.before in
-    (search rules, L.loop-i.invariant.1 ∙ clash_no_other _ _ _ (entry L).requires.0 L.before.pairs_of-pairs.ensures O.before.loop-i-test.true _ _ _ _ O.Pair-one.ensures T.pair_other.ensures c.if-other-eq0.true)
+    (search rules, L.loop-i.invariant.1 ∙ clash_no_other _ _ _ (entry L).requires.0 L.before.pairs_of-pairs.ensures O.before.loop-i-test.true _ _ _ _ O.pair_one.ensures T.pair_other.ensures c.if-other-eq0.true)
 
 returns : tie.Need-returns-else-other-eq0 invariant-loop decreases-loop
 returns c =
@@ -103,7 +103,7 @@ returns c =
     let O = T.before.before.before in
     let L = O.before.before in
     sym (L.loop-i.invariant.1
-    ∙ clash_both _ _ _ (entry L).requires.0 L.before.pairs_of-pairs.ensures O.before.loop-i-test.true _ _ _ _ O.Pair-one.ensures T.pair_other.ensures T.before.if-one-eq0.false c.if-other-eq0.false)
+    ∙ clash_both _ _ _ (entry L).requires.0 L.before.pairs_of-pairs.ensures O.before.loop-i-test.true _ _ _ _ O.pair_one.ensures T.pair_other.ensures T.before.if-one-eq0.false c.if-other-eq0.false)
 
 returns-2 : tie.Need-returns invariant-loop decreases-loop
 returns-2 c =

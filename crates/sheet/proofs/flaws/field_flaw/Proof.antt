@@ -17,7 +17,7 @@ settled-len-requires c κs = search rules
 value-flaw-requires : tie.Need-value_flaw-requires
 value-flaw-requires c κs =
     let S = c.before.before.before.before.before.before.before.before in
-    (S.requires.3, S.requires.2, omega arith, omega (arith, c.before.before.settled_len-n.ensures.1, c.before.before.settled_len-n.auto.1.1.1.1.0))
+    (S.requires.3, S.requires.2, omega arith, omega (arith, c.before.before.settled_len-n.ensures.1, c.before.before.settled_len-n.auto.scratch))
 
 same_length : tie.Need-shape_of-scratch
 same_length c = search rules

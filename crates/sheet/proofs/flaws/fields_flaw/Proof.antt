@@ -70,7 +70,7 @@ loop-again c =
     let C = L.before in
     record {
       within = search rules;
-      long = F.field_flaw-flaw.auto.1.1.1.1.1.0 ∙ L.loop-j.invariant.long;
+      long = F.field_flaw-flaw.auto.scratch ∙ L.loop-j.invariant.long;
       right = L.loop-j.invariant.right ∙ turn_missing _ _ _ _ _ _ _ _ C.before.first_of-first.ensures C.count_of-count.ensures.0 F.before.before.loop-j-test.true F.field_flaw-flaw.ensures c.if-flaw-eq8.true;
     }
 
@@ -84,7 +84,7 @@ loop-again-2 c =
     let C = L.before in
     record {
       within = search rules;
-      long = F.field_flaw-flaw.auto.1.1.1.1.1.0 ∙ L.loop-j.invariant.long;
+      long = F.field_flaw-flaw.auto.scratch ∙ L.loop-j.invariant.long;
       right = L.loop-j.invariant.right ∙ turn_fine _ _ _ _ _ _ _ _ C.before.first_of-first.ensures C.count_of-count.ensures.0 F.before.before.loop-j-test.true F.field_flaw-flaw.ensures c.before.if-flaw-eq7.false c.if-flaw-eq8.false;
     }
 

@@ -37,7 +37,7 @@ pages-flaw-requires c κs =
     let O = J.before.before.before in
     let E = O.before.before.before.before.before in
     let S = E.before.before.before.before.before in
-    (omega (arith, S.requires.0, O.fields_flaw-own.auto.1.1.1.1.0, E.edition_differs.auto.1.1.1.0), S.requires.1, S.requires.2, unbroken _ _ _ O.fields_flaw-own.ensures J.if-own-eq7.false)
+    (omega (arith, S.requires.0, O.fields_flaw-own.auto.scratch, E.edition_differs.auto.scratch), S.requires.1, S.requires.2, unbroken _ _ _ O.fields_flaw-own.ensures J.if-own-eq7.false)
 
 same-length-3 : tie.Need-shape_of-scratch-then-pages-lt9
 same-length-3 c = search rules

@@ -24,12 +24,12 @@ same_length c = search rules
 returns-2 : tie.Need-returns-then-value_len-ne0
 returns-2 c =
     let N = c.before.before.before in
-    λ l T. rw (some_taken _ _ _ _ N.value_len.ensures.0 N.value_len.ensures.1 N.value_len.auto.1.1.1.0 c.if-value_len-ne0.true) at (need_by T N.before.before.if-kind-ne-M.false)
+    λ l T. rw (some_taken _ _ _ _ N.value_len.ensures.0 N.value_len.ensures.1 N.value_len.auto.scratch c.if-value_len-ne0.true) at (need_by T N.before.before.if-kind-ne-M.false)
 
 value-len-requires-2 : tie.Need-value_len-requires-2
 value-len-requires-2 c κs =
     let S = c.before.before.before.before.before.before.before.before.before.before in
-    (omega (arith, S.requires.1, c.before.before.before.before.value_len.auto.1.1.1.0), omega (arith, S.requires.3, medication_long _ c.before.before.before.before.before.before.if-kind-ne-M.false))
+    (omega (arith, S.requires.1, c.before.before.before.before.value_len.auto.scratch), omega (arith, S.requires.3, medication_long _ c.before.before.before.before.before.before.if-kind-ne-M.false))
 
 same-length-2 : tie.Need-shape_of-scratch
 same-length-2 c = search rules
@@ -38,7 +38,7 @@ returns-3 : tie.Need-returns
 returns-3 c =
     let Q = c.before.before in
     let N = Q.before.before.before.before.before in
-    λ l T. rw (taken_empty _ _ _ _ Q.value_len-2.ensures.0 Q.value_len-2.ensures.1 Q.value_len-2.auto.1.1.1.0, sym (ap is_empty (none_taken _ _ _ N.value_len.ensures.0 Q.before.before.if-value_len-ne0.false)))
+    λ l T. rw (taken_empty _ _ _ _ Q.value_len-2.ensures.0 Q.value_len-2.ensures.1 Q.value_len-2.auto.scratch, sym (ap is_empty (none_taken _ _ _ N.value_len.ensures.0 Q.before.before.if-value_len-ne0.false)))
     at (need_by T N.before.before.if-kind-ne-M.false)
 
 pub needs_w_spec : {M : Type 1} → statement M

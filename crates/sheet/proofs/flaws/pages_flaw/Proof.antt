@@ -20,7 +20,7 @@ first-byte-requires c κs =
 first-byte-requires-2 : tie.Need-first_byte-z-requires
 first-byte-requires-2 c κs =
     let S = c.before.before.before.before.before.before.before.before.before in
-    (omega (arith, S.requires.0, c.before.before.before.first_byte-a.auto.1.1.1.0), omega (arith, S.requires.2, plan_long _ c.before.before.before.before.before.if-kind-ne-MP.false))
+    (omega (arith, S.requires.0, c.before.before.before.first_byte-a.auto.scratch), omega (arith, S.requires.2, plan_long _ c.before.before.before.before.before.if-kind-ne-MP.false))
 
 digits-flaw-requires : tie.Need-digits_flaw-requires
 digits-flaw-requires c κs = search rules

@@ -33,7 +33,7 @@ entry L = (counted L).before.before.before
 
 -- the numbers are as many as were lent
 long : (L : tie.At-loop-shut invariant-loop decreases-loop) → length L.loop-shut.raws ≡ length (entry L).args.raws.now
-long L = L.loop-shut.invariant.1 ∙ L.before.before.before.clear.auto.0
+long L = L.loop-shut.invariant.1 ∙ L.before.before.before.clear.auto.numbers
 
 count-of-requires : tie.Need-count_of-count-requires invariant-loop decreases-loop
 count-of-requires c κs = search rules
@@ -51,7 +51,7 @@ loop-holds c =
     let S = C.before.before.before in
     let k = kind_at S.args.kind in
     let n : C.count_of-count.result ≡ length (fields_of k) = C.count_of-count.ensures.0 ∙ count_is k in (
-      at_start _ k _ _ S.requires.0 (omega (arith, K.clear.auto.0, S.requires.4, count_is k)) (λ j h. K.clear.ensures.1 j (omega arith) (omega (arith, n, h))),
+      at_start _ k _ _ S.requires.0 (omega (arith, K.clear.auto.numbers, S.requires.4, count_is k)) (λ j h. K.clear.ensures.1 j (omega arith) (omega (arith, n, h))),
       refl,
     )
 
@@ -75,19 +75,19 @@ enum-known-piece-2 : tie.Need-enum_known-piece-in-Attribute-1 invariant-loop dec
 enum-known-piece-2 c = search rules
 
 -- an attribute: the loop's head before it, and the page
-module _ (P : tie.In-Attribute-2 invariant-loop decreases-loop) where
+module _ (P : tie.In-Attribute invariant-loop decreases-loop) where
   abbrev head : tie.At-loop-shut invariant-loop decreases-loop
-  head = P.before.before.before
+  head = P.before.before
 
   abbrev page : List ℕ
   page = (entry head).args.page.now
 
   -- its places lie in order
-  order : Inner head.loop.i (length page) (Attribute P.in-Attribute.name_at P.in-Attribute.name_end P.in-Attribute.raw_at P.in-Attribute.raw_end)
-  order = subst (λ r. Inner head.loop.i (length page) r) P.in-Attribute.is P.before.next_attr-piece.ensures.1
+  order : Inner head.loop-shut.i (length page) (Attribute P.in-Attribute.name_at P.in-Attribute.name_end P.in-Attribute.raw_at P.in-Attribute.raw_end)
+  order = subst (λ r. Inner head.loop-shut.i (length page) r) P.in-Attribute.is P.before.next_attr-piece.ensures.1
 
   -- it and what stands behind it
-  shape : inside_at page head.loop.i
+  shape : inside_at page head.loop-shut.i
       ≡ first_of page (Attribute P.in-Attribute.name_at P.in-Attribute.name_end P.in-Attribute.raw_at P.in-Attribute.raw_end)
   shape = P.before.next_attr-piece.ensures.0 ∙ ap (first_of page) P.in-Attribute.is
 
@@ -105,15 +105,15 @@ field-in-requires c κs = search rules
 
 -- an attribute whose field was looked for
 module _ (F : tie.After-field_in-j invariant-loop decreases-loop) where
-  abbrev at_piece : tie.In-Attribute-2 invariant-loop decreases-loop
-  at_piece = F.before.before.before.before
+  abbrev at_piece : tie.In-Attribute invariant-loop decreases-loop
+  at_piece = F.before.before.before
 
   -- the place of its field
   place : F.field_in-j.result
-      ≡ place_in (slice at_piece.piece2.given.0.0 at_piece.piece2.given.0.1.0 (page at_piece)) (fields_of (kind_at (entry (head at_piece)).args.kind))
+      ≡ place_in (slice at_piece.in-Attribute.name_at at_piece.in-Attribute.name_end (page at_piece)) (fields_of (kind_at (entry (head at_piece)).args.kind))
   place =
       F.field_in-j.ensures.0
-      ∙ ap (λ m. place_in m (fields_of (kind_at (entry (head at_piece)).args.kind))) (part_is (page at_piece) at_piece.piece2.given.0.0 at_piece.piece2.given.0.1.0)
+      ∙ ap (λ m. place_in m (fields_of (kind_at (entry (head at_piece)).args.kind))) (part_is (page at_piece) at_piece.in-Attribute.name_at at_piece.in-Attribute.name_end)
 
   -- how many fields the element has
   so-many : (counted (head at_piece)).count_of.result ≡ count_of (kind_at (entry (head at_piece)).args.kind)
@@ -192,8 +192,8 @@ loop-again c =
     let P = at_piece F in
     let L = head P in
     let h = order P in (
-      at_next L.loop.inv.0 _ _ _ (shape P) _ _ (place F) (so-many F) c.before.before.if-j-count.false c.if-raws-s-ne0.false _ _ refl refl (omega (arith, h.2)) h.3 h.4,
-      put_long L.loop.raws _ _ _ ∙ L.loop.inv.1,
+      at_next L.loop-shut.inv.0 _ _ _ (shape P) _ _ (place F) (so-many F) c.before.before.if-j-count.false c.if-raws-s-ne0.false _ _ refl refl (omega (arith, h.2)) h.3 h.4,
+      put_long L.loop-shut.raws _ _ _ ∙ L.loop-shut.inv.1,
     )
 
 pub find_spec : {M : Type 1} → statement M

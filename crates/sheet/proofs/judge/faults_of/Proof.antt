@@ -61,20 +61,20 @@ module _ (N : tie.After-next_tag-mark invariant-loop decreases-loop) (m : Mark) 
   shape = N.next_tag-mark.ensures.0 ∙ ap (tag_of (page_at N.before)) e
 
 -- an end tag
-module _ (c : tie.In-End-2 invariant-loop decreases-loop) where
+module _ (c : tie.In-End invariant-loop decreases-loop) where
   abbrev ended_by : tie.After-next_tag-mark invariant-loop decreases-loop
-  ended_by = c.before.before
+  ended_by = c.before.before.before
 
   abbrev end-at : ℕ
   end-at = c.before.before.in-Start.i
 
-  end-order : Outer ended_by.before.loop.at (length (page_at ended_by.before)) (End end-at)
+  end-order : Outer ended_by.before.loop-i.at (length (page_at ended_by.before)) (End end-at)
   end-order = order ended_by (End end-at) c.before.before.in-Start.is
 
 -- a start tag: where it stands, where its name ends
-module _ (c : tie.In-Start-2 invariant-loop decreases-loop) where
+module _ (c : tie.In-Start invariant-loop decreases-loop) where
   abbrev started-by : tie.After-next_tag-mark invariant-loop decreases-loop
-  started-by = c.before.before
+  started-by = c.before.before.before
 
   abbrev start-at : ℕ
   start-at = c.before.before.in-Start.i
@@ -82,13 +82,13 @@ module _ (c : tie.In-Start-2 invariant-loop decreases-loop) where
   abbrev name-end : ℕ
   name-end = c.before.before.in-Start.name_end
 
-  start-order : Outer started-by.before.loop.at (length (page_at started-by.before)) (Start start-at name-end)
+  start-order : Outer started-by.before.loop-i.at (length (page_at started-by.before)) (Start start-at name-end)
   start-order = order started-by (Start start-at name-end) c.before.before.in-Start.is
 
 -- a start tag once its element is known: what stands in it, and the state behind it
 module _ (c : tie.After-kind_under-kind invariant-loop decreases-loop) where
-  abbrev at_mark : tie.In-Start-2 invariant-loop decreases-loop
-  at_mark = c.before.before.before
+  abbrev at_mark : tie.In-Start invariant-loop decreases-loop
+  at_mark = c.before.before
 
   abbrev at-loop : tie.At-loop-i invariant-loop decreases-loop
   at-loop = (started-by at_mark).before
@@ -97,21 +97,21 @@ module _ (c : tie.After-kind_under-kind invariant-loop decreases-loop) where
   within = inside_at (page_at at-loop) (name-end at_mark)
 
   abbrev behind : Bool → St
-  behind b = left b (opened (st_of at-loop.loop.st) (kind_at c.kind_under-kind.result) (start-at at_mark) within.attrs)
+  behind b = left b (opened (st_of at-loop.loop-i.st) (kind_at c.kind_under-kind.result) (start-at at_mark) within.attrs)
 
   -- a turn: 5 if the element or an attribute is refused, else the tags still to come, from that state on
   turn : fold_page (tags_at (page_at at-loop) 0)
-      ≡ if (barred (st_of at-loop.loop.st) (kind_at c.kind_under-kind.result)) (given 5 (start-at at_mark))
+      ≡ if (barred (st_of at-loop.loop-i.st) (kind_at c.kind_under-kind.result)) (given 5 (start-at at_mark))
       (if (strange (kind_at c.kind_under-kind.result) (names within.attrs)) (given 5 (start-at at_mark))
       (judge_fold (behind within.shut) (tags_at (page_at at-loop) (start-at at_mark + 1))))
   turn =
       let i = start-at at_mark in
       let e = name-end at_mark in
       let w = page_at at-loop in
-      at-loop.loop.inv.right
-      ∙ on_start (st_of at-loop.loop.st) _ (tags_at w (i + 1)) i (slice (i + 1) e w) within.attrs within.shut c.kind_under-kind.result
-      (shape (started-by at_mark) (Start i e) at_mark.mark2.given.1)
-      (c.kind_under-kind.ensures.0 ∙ ap (λ (n : List ℕ). code (kind_under at-loop.loop.st.cur n)) (part_is w (i + 1) e))
+      at-loop.loop-i.inv.right
+      ∙ on_start (st_of at-loop.loop-i.st) _ (tags_at w (i + 1)) i (slice (i + 1) e w) within.attrs within.shut c.kind_under-kind.result
+      (shape (started-by at_mark) (Start i e) at_mark.in-Start.is)
+      (c.kind_under-kind.ensures.0 ∙ ap (λ (n : List ℕ). code (kind_under at-loop.loop-i.st.cur n)) (part_is w (i + 1) e))
 
   -- there are numbers enough for its raw values
   enough : 2 * count_of (kind_at c.kind_under-kind.result) ≤ 104
@@ -156,10 +156,10 @@ same_length c = search rules
 returns : tie.Need-returns-in-Nothing invariant-loop decreases-loop
 returns c =
     let T = c.before.before in
-    let N = T.before in
-    let L = N.before in
+    let N = T in
+    let L = N.before.before in
     c.told.ensures
-    ∙ ap verdict_by (c.before.finish.ensures ∙ sym (L.loop-i.invariant.right ∙ on_nothing (st_of L.loop-i.st) _ [] (shape N Nothing T.in-Nothing.is)))
+    ∙ ap verdict_by (c.before.finish.ensures ∙ sym (L.loop-i.invariant.right ∙ on_nothing (st_of L.loop-i.st) _ [] (shape N Nothing T.enum_told.given.1)))
 
 enum-known-mark : tie.Need-enum_known-mark invariant-loop decreases-loop
 enum-known-mark c = search rules
@@ -175,7 +175,7 @@ loop-less c = let h = end-order c.before.before in omega (arith, h.0, h.1)
 
 loop-again : tie.Need-loop-i-preserved-in-End invariant-loop decreases-loop
 loop-again c =
-    let M = c.before in
+    let M = c.before.before in
     let L = (ended_by M).before in
     record {
       inner = omega (arith, (end-order M).1);
@@ -183,9 +183,9 @@ loop-again c =
       lent = L.loop.inv.lent;
       table = L.loop.inv.table;
       bounds = L.loop.inv.bounds;
-      sound = c.close-st.ensures.1;
-      right = L.loop.inv.right ∙ on_end (st_of L.loop.st) _ _ (shape (ended_by M) (End (end-at M)) M.in-End.is)
-          ∙ ap (λ (s : St). judge_fold s (tags_at (page_at L) (end-at M + 1))) (sym c.close-st.ensures.0);
+      sound = c.close.ensures.1;
+      right = L.loop.inv.right ∙ on_end (st_of L.loop.st) _ _ (shape (ended_by M) (End (end-at M)) M.in-Start.is)
+          ∙ ap (λ (s : St). judge_fold s (tags_at (page_at L) (end-at M + 1))) (sym c.close.ensures.0);
     }
 
 enum-known-mark-2 : tie.Need-enum_known-mark-in-Start-1 invariant-loop decreases-loop
@@ -193,9 +193,9 @@ enum-known-mark-2 c = search rules
 
 cast-place : tie.Need-overflow_cast-place invariant-loop decreases-loop
 cast-place c =
-    let M = c in
+    let M = c.before in
     let h = start-order M in
-    omega (arith, h.1, h.2, short (started-by M).before)
+    omega (arith, h.1, h.2, short (started-by.before M).before)
 
 add-kind-under : tie.Need-overflow_add-i invariant-loop decreases-loop
 add-kind-under c = let h = start-order c.before in omega (arith, h.1, h.2)
@@ -219,7 +219,7 @@ same-length-2 : tie.Need-shape_of-scratch-then-bars invariant-loop decreases-loo
 same-length-2 c = search rules
 
 returns-2 : tie.Need-returns-then-bars invariant-loop decreases-loop
-returns-2 c = let K = c.before.before in five_at _ (start-at (at_mark K)) (turn K ∙ rw (sym c.before.bars.ensures ∙ c.if-bars.true))
+returns-2 c = let K = c.before.before.before.before in five_at _ (start-at (at_mark K)) (turn K ∙ rw (sym c.before.bars.ensures ∙ c.if1.true))
 
 slice-aggregate-find : tie.Need-slice_bounds-find-end invariant-loop decreases-loop
 slice-aggregate-find c = search rules
@@ -228,49 +228,49 @@ find-requires : tie.Need-find-found-requires invariant-loop decreases-loop
 find-requires c κs =
     let K = c.before.before.before.before in
     let L = at-loop K in
-    ((start-order (at_mark K)).2, short L, K.kind_under-kind.ensures.1, L.loop.inv.table, omega (arith, enough K, L.loop.inv.lent))
+    ((start-order (at_mark K)).2, short L, K.kind_under-kind.ensures.1, L.loop-i.inv.table, omega (arith, enough K, L.loop-i.inv.lent))
 
 same-length-3 : tie.Need-shape_of-scratch-then-found invariant-loop decreases-loop
 same-length-3 c = search rules
 
 returns-3 : tie.Need-returns-then-found invariant-loop decreases-loop
 returns-3 c =
-    let E = c.before.before in
-    let X = E.before.before.before in
+    let E = c.before.before.before.before.before.before.before.before.before in
+    let X = E.before in
     let K = X.before.before in
-    five_at _ (start-at (at_mark K)) (turn K ∙ rw (sym X.before.bars.ensures ∙ X.if-bars.false, sym E.find-found.ensures.0 ∙ c.if-found.true))
+    five_at _ (start-at (at_mark K)) (turn K ∙ rw (sym X.before.bars.ensures ∙ X.if1.false, sym E.find.ensures.0 ∙ c.if2.true))
 
 -- the raw values that were found stand in as many numbers
-told_in : (E : tie.After-find-found invariant-loop decreases-loop) → length E.find-found.new.1.1.1.1.0 ≡ 104
-told_in E = E.find-found.auto.1.1.1.1.0 ∙ (at-loop E.before.before.before.before.before).loop.inv.lent
+told_in : (E : tie.After-find-found invariant-loop decreases-loop) → length E.find-found.new.raws ≡ 104
+told_in E = E.find-found.auto.raws ∙ (at-loop E.before.before.before.before.before).loop.inv.lent
 
 slice-aggregate-flaw-of : tie.Need-slice_bounds-flaw_of-end invariant-loop decreases-loop
 slice-aggregate-flaw-of c = search rules
 
 flaw-of-requires : tie.Need-flaw_of-number-requires invariant-loop decreases-loop
 flaw-of-requires c κs =
-    let E = c.before.before.before.before.before in
+    let E = c.before.before.before.before.before.before.before.before.before.before.before.before.before in
     let K = E.before.before.before.before.before in
     let L = at-loop K in
-    (roomy L, K.kind_under-kind.ensures.1, omega (arith, enough K, told_in E), L.loop.inv.bounds)
+    (roomy L, K.kind-under.ensures.1, omega (arith, enough K, told_in E), L.loop-i.inv.bounds)
 
 slice-aggregate-needs-w : tie.Need-slice_bounds-needs_w-end invariant-loop decreases-loop
 slice-aggregate-needs-w c = search rules
 
 needs-w-requires : tie.Need-needs_w-needs-requires invariant-loop decreases-loop
 needs-w-requires c κs =
-    let F = c.before.before.before.before in
+    let F = c.before.before.before.before.before.before.before.before.before.before.before.before.before.before.before.before.before in
     let E = F.before.before.before.before.before.before in
     let K = E.before.before.before.before.before in
     let L = at-loop K in
-    (short L, omega (arith, roomy L, F.flaw_of-number.auto.1.1.1.1.0), K.kind_under-kind.ensures.1, omega (arith, enough K, told_in E))
+    (short L, omega (arith, roomy L, F.flaw-of.auto.1.1.1.1.0), K.kind-under.ensures.1, omega (arith, enough K, told_in E))
 
 enter-requires : tie.Need-enter-st-requires invariant-loop decreases-loop
 enter-requires c κs =
-    let F = c.before.before.before.before.before.before.before in
+    let F = c.before.before.before.before.before.before.before.before.before.before.before.before.before.before.before.before.before.before.before.before.before.before.before in
     let X = F.before.before.before.before.before.before.before.before.before in
     let K = X.before.before in
-    (K.kind_under-kind.ensures.1, (at-loop K).loop.invariant.sound, sym X.before.bars.ensures ∙ X.if-bars.false)
+    (K.kind-under.ensures.1, (at-loop K).loop.invariant.sound, sym X.before.bars.ensures ∙ X.if1.false)
 
 -- where the element of the start tag that is left behind is known
 abbrev known_at : tie.After-enter-st invariant-loop decreases-loop → tie.After-kind_under-kind invariant-loop decreases-loop
@@ -300,10 +300,10 @@ loop-again-2 c =
     let (shut, tells) = E.find-found.ensures.1 Y.if-found.false in
     record {
       inner = omega (arith, h.1, h.2);
-      long = W.needs_w-needs.auto.1.1.1.0 ∙ F.flaw_of-number.auto.1.1.1.1.0 ∙ L.loop.inv.long;
+      long = W.needs_w-needs.auto.scratch ∙ F.flaw_of-number.auto.scratch ∙ L.loop-i.inv.long;
       lent = told_in E;
-      table = L.loop.inv.table;
-      bounds = L.loop.inv.bounds;
+      table = L.loop-i.inv.table;
+      bounds = L.loop-i.inv.bounds;
       sound = c.enter-st.ensures.1;
       right = turn K ∙ rw (sym X.before.bars.ensures ∙ X.if-bars.false, sym E.find-found.ensures.0 ∙ Y.if-found.false)
           (ap (λ (s : St). judge_fold s (tags_at (page_at L) (start-at M + 1)))

@@ -18,11 +18,11 @@ abbrev decreases-loop : tie.decreases-loop-i
 decreases-loop numbers k element pairs i₀ i = pairs - i
 
 -- the places of a pair are below the number of the element's fields
-one-small : (c : tie.After-pair_one invariant-loop decreases-loop) → c.Pair-one.result < count_of (kind_at c.before.before.before.before.before.args.element)
+one-small : (c : tie.After-pair_one invariant-loop decreases-loop) → c.pair_one.result < count_of (kind_at c.before.before.before.before.before.args.element)
 one-small c =
     let I = c.before in
     let P = I.before.before in
-    omega (arith, c.Pair-one.ensures, one_within _ _ _ P.before.before.requires.0 P.pairs_of-pairs.ensures I.loop-i-test.true)
+    omega (arith, c.pair_one.ensures, one_within _ _ _ P.before.before.requires.0 P.pairs_of-pairs.ensures I.loop-i-test.true)
 
 other-small : (c : tie.After-pair_other invariant-loop decreases-loop) → c.pair_other.result < count_of (kind_at c.before.before.before.before.before.before.before.args.element)
 other-small c =
@@ -86,7 +86,7 @@ loop-again c =
     let L = O.before.before in
     let P = L.before in
     let a = P.before.before.args in
-    (search rules, L.loop-i.invariant.1 ∙ clash_no_one a.numbers.now a.k a.element _ _ _ _ P.pairs_of-pairs.ensures O.before.loop-i-test.true O.Pair-one.ensures T.pair_other.ensures c.if-one-eq0.true)
+    (search rules, L.loop-i.invariant.1 ∙ clash_no_one a.numbers.now a.k a.element _ _ _ _ P.pairs_of-pairs.ensures O.before.loop-i-test.true O.pair_one.ensures T.pair_other.ensures c.if-one-eq0.true)
 
 loop-less-2 : tie.Need-loop-i-smaller invariant-loop decreases-loop
 loop-less-2 c = search rules
@@ -98,7 +98,7 @@ loop-again-2 c =
     let L = O.before.before in
     let P = L.before in
     let a = P.before.before.args in
-    (search rules, L.loop-i.invariant.1 ∙ clash_no_other a.numbers.now a.k a.element _ _ _ _ P.pairs_of-pairs.ensures O.before.loop-i-test.true O.Pair-one.ensures T.pair_other.ensures c.if-other-eq0.true)
+    (search rules, L.loop-i.invariant.1 ∙ clash_no_other a.numbers.now a.k a.element _ _ _ _ P.pairs_of-pairs.ensures O.before.loop-i-test.true O.pair_one.ensures T.pair_other.ensures c.if-other-eq0.true)
 
 returns : tie.Need-returns-else-other-eq0 invariant-loop decreases-loop
 returns c =
@@ -107,7 +107,7 @@ returns c =
     let L = O.before.before in
     let P = L.before in
     let a = P.before.before.args in
-    sym (L.loop-i.invariant.1 ∙ clash_both a.numbers.now a.k a.element _ _ _ _ P.pairs_of-pairs.ensures O.before.loop-i-test.true O.Pair-one.ensures T.pair_other.ensures c.before.if-one-eq0.false c.if-other-eq0.false)
+    sym (L.loop-i.invariant.1 ∙ clash_both a.numbers.now a.k a.element _ _ _ _ P.pairs_of-pairs.ensures O.before.loop-i-test.true O.pair_one.ensures T.pair_other.ensures c.before.if-one-eq0.false c.if-other-eq0.false)
 
 returns-2 : tie.Need-returns invariant-loop decreases-loop
 returns-2 c =

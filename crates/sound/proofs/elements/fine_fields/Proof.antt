@@ -58,7 +58,7 @@ returns c =
     let I = F.before.before.before in
     let L = I.before in
     let a = L.before.before.before.args in
-    sym (L.loop-i.invariant.1 ∙ fields_bad a.text.now a.numbers.now a.first a.count a.j L.loop-i.i I.loop-i-test.true _ F.fine_value.ensures (not-true _ c.if-not-fine_value.true))
+    sym (L.loop-i.invariant.1 ∙ fields_bad a.text.now a.numbers.now a.first a.count a.j L.loop-i.i I.loop-i-test.true _ F.fine_value.ensures c.if-not-fine_value.true)
 
 add-i : tie.Need-overflow_add-i invariant-loop decreases-loop
 add-i c = search rules
@@ -72,7 +72,7 @@ loop-again c =
     let I = F.before.before.before in
     let L = I.before in
     let a = L.before.before.before.args in
-    (search rules, L.loop-i.invariant.1 ∙ fields_on a.text.now a.numbers.now a.first a.count a.j L.loop-i.i I.loop-i-test.true _ F.fine_value.ensures (not-false _ c.if-not-fine_value.false))
+    (search rules, L.loop-i.invariant.1 ∙ fields_on a.text.now a.numbers.now a.first a.count a.j L.loop-i.i I.loop-i-test.true _ F.fine_value.ensures c.if-not-fine_value.false)
 
 returns-2 : tie.Need-returns invariant-loop decreases-loop
 returns-2 c =

@@ -28,13 +28,13 @@ unfolding fine_head kind_at count_of fields_of
 past-language c = rw (ne_eqb _ 0 c.if-numbers-eq0.false)
 
 past-fields : (c : tie.Else-not-fine_fields) → let S = c.before.before.before.before.before.before in whole S ≡ (element_fine S 2 2 && (element_fine S 3 10 && element_fine S 4 20))
-past-fields c = let F = c.before in past-language F.before ∙ rw (sym F.fine_fields.ensures ∙ not-false _ c.if-not-fine_fields.false)
+past-fields c = let F = c.before in past-language F.before ∙ rw (sym F.fine_fields.ensures ∙ c.if-not-fine_fields.false)
 
 past-person : (c : tie.Else-not-fine_element) → let S = c.before.before.before.before.before.before.before.before in whole S ≡ (element_fine S 3 10 && element_fine S 4 20)
-past-person c = let G = c.before in past-fields G.before ∙ rw (sym G.fine_element.ensures ∙ not-false _ c.if-not-fine_element.false)
+past-person c = let G = c.before in past-fields G.before ∙ rw (sym G.fine_element.ensures ∙ c.if-not-fine_element.false)
 
 past-author : (c : tie.Else-not-fine_element-2) → let S = c.before.before.before.before.before.before.before.before.before.before in whole S ≡ element_fine S 4 20
-past-author c = let H = c.before in past-person H.before ∙ rw (sym H.fine_element-2.ensures ∙ not-false _ c.if-not-fine_element-2.false)
+past-author c = let H = c.before in past-person H.before ∙ rw (sym H.fine_element-2.ensures ∙ c.if-not-fine_element-2.false)
 
 shared-slice-read-if1 : tie.Need-bounds-numbers-5
 shared-slice-read-if1 c = search rules
@@ -47,19 +47,19 @@ fine-fields-requires : tie.Need-fine_fields-requires
 fine-fields-requires c κs = search rules
 
 returns-2 : tie.Need-returns-then-not-fine_fields
-returns-2 c = let F = c.before in sym (past-language F.before ∙ rw (sym F.fine_fields.ensures ∙ not-true _ c.if-not-fine_fields.true))
+returns-2 c = let F = c.before in sym (past-language F.before ∙ rw (sym F.fine_fields.ensures ∙ c.if-not-fine_fields.true))
 
 fine-element-requires : tie.Need-fine_element-requires
 fine-element-requires c κs = let h = head_counts.0 in search rules
 
 returns-3 : tie.Need-returns-then-not-fine_element
-returns-3 c = let G = c.before in sym (past-fields G.before ∙ rw (sym G.fine_element.ensures ∙ not-true _ c.if-not-fine_element.true))
+returns-3 c = let G = c.before in sym (past-fields G.before ∙ rw (sym G.fine_element.ensures ∙ c.if-not-fine_element.true))
 
 fine-element-requires-2 : tie.Need-fine_element-requires-2
 fine-element-requires-2 c κs = let h = head_counts.1 in search rules
 
 returns-4 : tie.Need-returns-then-not-fine_element-2
-returns-4 c = let H = c.before in sym (past-person H.before ∙ rw (sym H.fine_element-2.ensures ∙ not-true _ c.if-not-fine_element-2.true))
+returns-4 c = let H = c.before in sym (past-person H.before ∙ rw (sym H.fine_element-2.ensures ∙ c.if-not-fine_element-2.true))
 
 fine-element-requires-3 : tie.Need-fine_element-requires-3
 fine-element-requires-3 c κs = let h = head_counts.2 in search rules

@@ -32,10 +32,10 @@ past-lacks : (c : tie.Else-lacks) → let N = c.before.before in whole N ≡ fro
 past-lacks c = let L = c.before in by_tests L.before ∙ rw (sym L.lacks.ensures ∙ c.if-lacks.false)
 
 past-package : (c : tie.Else-not-good_package) → let N = c.before.before.before.before.before in whole N ≡ from_fields N
-past-package c = let P = c.before in past-lacks P.before.before ∙ rw (sym P.good_package.ensures ∙ not-false _ c.if-not-good_package.false)
+past-package c = let P = c.before in past-lacks P.before.before ∙ rw (sym P.good_package.ensures ∙ c.if-not-good_package.false)
 
 past-fields : (c : tie.Else-not-fine_fields) → let N = c.before.before.before.before.before.before.before in whole N ≡ from-clashes N
-past-fields c = let F = c.before in past-package F.before ∙ rw (sym F.fine_fields.ensures ∙ not-false _ c.if-not-fine_fields.false)
+past-fields c = let F = c.before in past-package F.before ∙ rw (sym F.fine_fields.ensures ∙ c.if-not-fine_fields.false)
 
 last-w-requires : tie.Need-last_w-n-requires
 last-w-requires c κs = search rules
@@ -53,13 +53,13 @@ good-package-requires : tie.Need-good_package-requires
 good-package-requires c κs = search rules
 
 returns-2 : tie.Need-returns-then-not-good_package
-returns-2 c = let P = c.before in sym (past-lacks P.before.before ∙ rw (sym P.good_package.ensures ∙ not-true _ c.if-not-good_package.true))
+returns-2 c = let P = c.before in sym (past-lacks P.before.before ∙ rw (sym P.good_package.ensures ∙ c.if-not-good_package.true))
 
 fine-fields-requires : tie.Need-fine_fields-requires
 fine-fields-requires c κs = search rules
 
 returns-3 : tie.Need-returns-then-not-fine_fields
-returns-3 c = let F = c.before in sym (past-package F.before ∙ rw (sym F.fine_fields.ensures ∙ not-true _ c.if-not-fine_fields.true))
+returns-3 c = let F = c.before in sym (past-package F.before ∙ rw (sym F.fine_fields.ensures ∙ c.if-not-fine_fields.true))
 
 clashes-requires : tie.Need-clashes-requires
 clashes-requires c κs = let h = m_count in search rules

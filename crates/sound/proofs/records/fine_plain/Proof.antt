@@ -19,7 +19,7 @@ fine-element-requires c κs = search rules
 
 returns-2 : tie.Need-returns-then-not-fine_element
 unfolding fine_plain
-returns-2 c = let E = c.before in rw (eq-eqb _ 0 E.before.if-numbers-ne0.false, sym E.fine_element.ensures ∙ not-true _ c.if-not-fine_element.true)
+returns-2 c = let E = c.before in rw (eq-eqb _ 0 E.before.if-numbers-ne0.false, sym E.fine_element.ensures ∙ c.if-not-fine_element.true)
 
 count-of-requires : tie.Need-count_of-own-requires
 count-of-requires c κs = search rules
@@ -35,7 +35,7 @@ unfolding fine_plain
 returns-3 c =
     let N = c.before in
     let E = N.before.before in
-    rw (eq-eqb _ 0 E.before.if-numbers-ne0.false, sym E.fine_element.ensures ∙ not-false _ N.before.if-not-fine_element.false) (c.all_absent.ensures ∙ rw N.count_of-own.ensures.0)
+    rw (eq-eqb _ 0 E.before.if-numbers-ne0.false, sym E.fine_element.ensures ∙ N.before.if-not-fine_element.false) (c.all_absent.ensures ∙ rw N.count_of-own.ensures.0)
 
 pub fine_plain_spec : {M : Type 1} → statement M
 fine_plain_spec =

@@ -34,7 +34,7 @@ returns c =
     let I = F.before in
     let L = I.before in
     let a = L.before.before.before.args in
-    sym (L.loop-i.invariant.1 ∙ ws_bad a.text.now a.numbers.now a.n L.loop-i.i I.loop-i-test.true _ F.fine_element.ensures (not-true _ c.if-not-fine_element.true))
+    sym (L.loop-i.invariant.1 ∙ ws_bad a.text.now a.numbers.now a.n L.loop-i.i I.loop-i-test.true _ F.fine_element.ensures c.if-not-fine_element.true)
 
 add-i : tie.Need-overflow_add-i-in-loop-i invariant-loop decreases-loop
 add-i c = search rules
@@ -48,7 +48,7 @@ loop-again c =
     let I = F.before in
     let L = I.before in
     let a = L.before.before.before.args in
-    (search rules, L.loop-i.invariant.1 ∙ ws_on a.text.now a.numbers.now a.n L.loop-i.i I.loop-i-test.true _ F.fine_element.ensures (not-false _ c.if-not-fine_element.false))
+    (search rules, L.loop-i.invariant.1 ∙ ws_on a.text.now a.numbers.now a.n L.loop-i.i I.loop-i-test.true _ F.fine_element.ensures c.if-not-fine_element.false)
 
 returns-2 : tie.Need-returns invariant-loop decreases-loop
 returns-2 c =

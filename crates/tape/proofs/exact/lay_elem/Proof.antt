@@ -65,7 +65,7 @@ lay-slots-requires : tie.Need-lay_slots-m-requires
 lay-slots-requires c κs = let p = (entry c.before.before).requires in (p.0, p.1, p.3, p.4, simp length-set (omega (arith, p.5)), p.7, p.8)
 
 same_length : tie.Need-shape_of-tape
-same_length c = c.before.before.before.before.lay_slots-m.auto.1.1.1.0 ∙ simp length-set refl
+same_length c = c.before.before.before.before.lay_slots-m.auto.tape ∙ simp length-set refl
 
 same-length-2 : tie.Need-shape_of-side
 same-length-2 c = search rules
@@ -78,7 +78,7 @@ returns c =
     let a = S.args in
     let k = kind_at a.kind in
     let n = C.count_of.ensures.0 in
-    elem_laid k a.place a.first _ a.kind (sym (code_back a.kind S.pre.1)) (omega (arith, n, count_is k)) (omega (arith, n, S.pre.5)) (told_long a.page.now k a.raws.now ∙ count_is k) X.lay_slots-m.ensures
+    elem_laid k a.place a.first _ a.kind (sym (code_back a.kind S.requires.1)) (omega (arith, n, count_is k)) (omega (arith, n, S.requires.5)) (told_long a.page.now k a.raws.now ∙ count_is k) X.lay_slots-m.ensures
 
 pub lay_elem_spec : {M : Type 1} → statement M
 lay_elem_spec =

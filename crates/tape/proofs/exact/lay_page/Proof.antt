@@ -21,8 +21,8 @@ abbrev decreases-loop : tie.decreases-loop-p
 decreases-loop page keys tape₀ first side₀ used raws₀ f₀ m₀ at₀ tape side raws f m at = length page - at
 
 -- the loop's head before a start tag, and where the call began
-abbrev head : tie.In-Start-2 invariant-loop decreases-loop → tie.At-loop-p invariant-loop decreases-loop
-head c = c.before.before.before
+abbrev head : tie.In-Start invariant-loop decreases-loop → tie.At-loop-p invariant-loop decreases-loop
+head c = c.before.before
 
 abbrev entry : tie.At-loop-p invariant-loop decreases-loop → tie.Start invariant-loop decreases-loop
 entry L = L.before.before.before.before
@@ -31,15 +31,15 @@ entry L = L.before.before.before.before
 short : (c : tie.Start invariant-loop decreases-loop) → length c.args.page.now ≤ 1400
 short c = (judges c.args.page.now (sheet_by (elems_of c.args.page.now)) c.requires.0).short
 
-ended : (c : tie.In-End-2 invariant-loop decreases-loop) → let L = c.before.before in Ends (entry L).args.page.now L.loop-p.at c.in-End.p
+ended : (c : tie.In-End invariant-loop decreases-loop) → let L = c.before.before in Ends (entry L).args.page.now L.loop-p.at c.in-End.p
 ended c = ends c.in-End.is c.before.next_tag-mark.ensures
 
-started : (c : tie.In-Start-2 invariant-loop decreases-loop) → Starts (entry (head c)).args.page.now (head c).loop.at c.in-Start.p c.in-Start.name_end
+started : (c : tie.In-Start invariant-loop decreases-loop) → Starts (entry (head c)).args.page.now (head c).loop.at c.in-Start.p c.in-Start.name_end
 started c = starts c.in-Start.is c.before.next_tag-mark.ensures
 
 -- the element that stands next
 next : (c : tie.After-find-found invariant-loop decreases-loop) → let B = c.before.before.before in
-    Here (entry (head B)).args.page.now (head B).loop.at B.in-Start.p B.in-Start.name_end c.before.before.kind_named-kind.result c.find-found.new.1.1.1.1.0
+    Here (entry (head B)).args.page.now (head B).loop.at B.in-Start.p B.in-Start.name_end c.before.before.kind_named-kind.result c.find-found.new.raws
 next c =
     let K = c.before.before.kind_named-kind in
     let B = c.before.before.before in
@@ -68,7 +68,7 @@ returns c =
     let N = c.before in
     let L = N.before in
     let S = entry L in
-    on_done L.loop-p.invariant.0 S.pre.0 (nothing S.args.page.now L.loop-p.at c.in-Nothing.is N.next_tag-mark.ensures.0) S.pre.2 S.pre.4
+    on_done L.loop-p.invariant.0 S.requires.0 (nothing S.args.page.now L.loop-p.at c.in-Nothing.is N.next_tag-mark.ensures.0) S.requires.2 S.requires.4
 
 enum-known-mark : tie.Need-enum_known-mark invariant-loop decreases-loop
 enum-known-mark c = search rules
@@ -99,15 +99,15 @@ enough : (c : tie.After-kind_named-kind invariant-loop decreases-loop) → 2 * c
 enough c = omega (arith, part_within c.kind_named-kind.result c.kind_named-kind.ensures.1)
 
 -- and they stay so many
-told_in : (c : tie.After-find-found invariant-loop decreases-loop) → length c.find-found.new.1.1.1.1.0 ≡ 104
-told_in c = c.find-found.auto.1.1.1.1.0 ∙ (head c.before.before.before.before).loop.inv.1
+told_in : (c : tie.After-find-found invariant-loop decreases-loop) → length c.find-found.new.raws ≡ 104
+told_in c = c.find-found.auto.raws ∙ (head c.before.before.before).loop.inv.1
 
 find-requires : tie.Need-find-found-requires invariant-loop decreases-loop
 find-requires c κs =
     let K = c.before in
     let B = K.before in
     let S = entry (head B) in
-    ((started B).inner, short S, K.kind_named-kind.ensures.1, S.pre.1, omega (arith, enough K, (head B).loop.invariant.1))
+    ((started B).inner, short S, K.kind_named-kind.ensures.1, S.requires.1, omega (arith, enough K, (head B).loop.invariant.1))
 
 slice-aggregate-lay-elem : tie.Need-slice_bounds-lay_elem-end invariant-loop decreases-loop
 slice-aggregate-lay-elem c = search rules
@@ -126,10 +126,10 @@ lay-elem-requires c κs =
       omega (arith, E.high, E.inner),
       omega (arith, enough K, told_in F),
       N.lie,
-      omega (arith, elem_room H N S.pre.0, S.pre.2, H.tape_long),
-      omega (arith, S.pre.3, H.tape_long),
-      omega (arith, value_room H N S.pre.0, S.pre.4, H.side_long),
-      omega (arith, S.pre.5, H.side_long),
+      omega (arith, elem_room H N S.requires.0, S.requires.2, H.tape_long),
+      omega (arith, S.requires.3, H.tape_long),
+      omega (arith, value_room H N S.requires.0, S.requires.4, H.side_long),
+      omega (arith, S.requires.5, H.side_long),
     )
 
 add-at-2 : tie.Need-overflow_add-at-in-Start invariant-loop decreases-loop
@@ -144,7 +144,7 @@ loop-again-2 c =
     let F = X.before.before.before.before.before in
     let B = F.before.before.before in
     let E = started B in
-    (on_elem (head B).loop.invariant.0 (next F) (omega (arith, E.high, E.inner)) X.lay_elem-made.ensures X.lay_elem-made.auto.1.1.1.1.0 X.lay_elem-made.auto.1.1.1.1.1.1.0, told_in F)
+    (on_elem (head B).loop.invariant.0 (next F) (omega (arith, E.high, E.inner)) X.lay_elem-made.ensures X.lay_elem-made.auto.tape X.lay_elem-made.auto.side, told_in F)
 
 pub lay_page_spec : {M : Type 1} → statement M
 lay_page_spec =

@@ -40,7 +40,7 @@ returns c =
     let S = entry c.before in
     let a = S.args in
     let X = c.before.before.before.lay_value-e.ensures in
-    one_absent a.page.now _ a.tape.now a.side.now _ a.at a.used _ S.pre.4 S.pre.5 X.0 X.1 _ (omega (arith, S.pre.0, S.pre.1)) S.pre.2 c.if-e-used.true
+    one_absent a.page.now _ a.tape.now a.side.now _ a.at a.used _ S.requires.4 S.requires.5 X.0 X.1 _ (omega (arith, S.requires.0, S.requires.1)) S.requires.2 c.if-e-used.true
 
 cast-tape : tie.Need-overflow_cast-tape
 cast-tape c = search rules
@@ -77,7 +77,7 @@ returns-2 c =
     let S = entry c.before in
     let a = S.args in
     let X = c.before.before.before.lay_value-e.ensures in
-    one_there a.page.now _ a.tape.now a.side.now _ a.at a.used _ S.pre.4 S.pre.5 X.0 X.1 S.pre.6 c.if-e-used.false
+    one_there a.page.now _ a.tape.now a.side.now _ a.at a.used _ S.requires.4 S.requires.5 X.0 X.1 S.requires.6 c.if-e-used.false
 
 pub lay_slot_spec : {M : Type 1} → statement M
 lay_slot_spec =

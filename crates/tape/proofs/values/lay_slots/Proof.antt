@@ -103,7 +103,7 @@ add-lay-slot-2 c =
     let I = c.before.before.before in
     let C = I.before.before in
     let S = entry I.before in
-    omega (arith, S.pre.4, C.count_of-count.ensures.0, I.loop-j-test.true, S.good)
+    omega (arith, S.requires.4, C.count_of-count.ensures.0, I.loop-j-test.true, S.good)
 
 lay-slot-requires : tie.Need-lay_slot-m-requires invariant-loop decreases-loop
 lay-slot-requires c κs =
@@ -113,14 +113,14 @@ lay-slot-requires c κs =
     let S = entry L in
     let v = L.loop-j.invariant in
     let n = C.count_of-count.ensures in
-    let p = lie_at S.args.page.now (count_of (kind_at S.args.kind)) S.args.raws.now L.loop-j.j S.pre.3 (omega (arith, n.0, I.loop-j-test.true)) in (
+    let p = lie_at S.args.page.now (count_of (kind_at S.args.kind)) S.args.raws.now L.loop-j.j S.requires.3 (omega (arith, n.0, I.loop-j-test.true)) in (
       p.0,
       p.1,
-      S.pre.0,
+      S.requires.0,
       omega (arith, n.1, C.before.first_of-first.ensures, I.loop-j-test.true),
-      omega (arith, v.tape-long, n.0, S.pre.4, I.loop-j-test.true),
-      rw (value-here I) (next_room (values L) L.loop-j.j (left I) v.laid _ (omega (arith, v.side-long, S.pre.5))),
-      omega (arith, v.side-long, S.pre.6),
+      omega (arith, v.tape-long, n.0, S.requires.4, I.loop-j-test.true),
+      rw (value-here I) (next_room (values L) L.loop-j.j (left I) v.laid _ (omega (arith, v.side-long, S.requires.5))),
+      omega (arith, v.side-long, S.requires.6),
     )
 
 add-j : tie.Need-overflow_add-j invariant-loop decreases-loop
@@ -138,8 +138,8 @@ loop-again c =
     record {
       high = omega (arith, left I);
       laid = next_slot (values L) L.loop-j.j (left I) v.laid (rw (value-here I) at X.lay_slot-m.ensures);
-      tape-long = X.lay_slot-m.auto.1.1.1.1.0 ∙ v.tape-long;
-      side-long = X.lay_slot-m.auto.1.1.1.1.1.1.0 ∙ v.side-long;
+      tape-long = X.lay_slot-m.auto.tape ∙ v.tape-long;
+      side-long = X.lay_slot-m.auto.side ∙ v.side-long;
     }
 
 same_length : tie.Need-shape_of-tape invariant-loop decreases-loop

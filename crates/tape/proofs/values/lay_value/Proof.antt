@@ -23,11 +23,11 @@ abbrev raw : tie.After-decode-k → List ℕ
 raw D = let a = (entry D).args in slice a.from a.to a.page.now
 
 -- what was decoded stands in the scratch
-decoded : (c : tie.After-decode-k) → take c.decode-k.result c.decode-k.new.1.1.1.0 ≡ value (raw c)
+decoded : (c : tie.After-decode-k) → take c.decode-k.result c.decode-k.new.out ≡ value (raw c)
 decoded c = front _ _ _ _ c.decode-k.ensures.0 c.decode-k.ensures.2
 
 -- it counts as it is
-counts : (c : tie.Else-is_zero) → let D = c.before.before.before.before.before in take D.decode-k.result D.decode-k.new.1.1.1.0 ≡ settled (entry D).args.id (raw D)
+counts : (c : tie.Else-is_zero) → let D = c.before.before.before.before.before in take D.decode-k.result D.decode-k.new.out ≡ settled (entry D).args.id (raw D)
 counts c =
     let R = c.before.before.before in
     let D = R.before.before.before.before.before in
@@ -69,7 +69,7 @@ lay-requires : tie.Need-lay-requires
 lay-requires c κs =
     let E = c.before.before in
     let S = entry E.before.before.before.before.before in
-    subst (λ (v : List ℕ). S.args.n + length v ≤ length S.args.room.now) (sym (counts E)) S.pre.4
+    subst (λ (v : List ℕ). S.args.n + length v ≤ length S.args.room.now) (sym (counts E)) S.requires.4
 
 same_length : tie.Need-shape_of-room
 same_length c = search rules

@@ -19,7 +19,7 @@ roomy c = c.before.before.before.if-out-lt-SUBSTANCE.false
 
 -- reading gave a plan
 plan-at : (c : tie.Else-number-ne0) → let R = c.before.before.before.before in let a = (start R).args in
-    Readable (cell_call (length a.out.now) a.buffer.now a.starts.now a.lens.now) R.read-reading.result R.read-reading.new.1.1.1.0 R.read-reading.new.1.1.1.1.0
+    Readable (cell_call (length a.out.now) a.buffer.now a.starts.now a.lens.now) R.read-reading.result R.read-reading.new.rows R.read-reading.new.text
 plan-at c =
     let R = c.before.before.before.before in
     readable (start R).args.out.now _ _ _ (roomy R) _ _ R.read-reading.result R.read-reading.ensures (sym c.before.refusal_number-number.ensures ∙ c.if-number-ne0.false)

@@ -13,7 +13,7 @@ use Rattle.tollgilt.proofs.cells.lay_cell.Statement.{statement}
 use Rattle.tollgilt.proofs.cells.lay_cell.Tie as tie
 
 -- what the cell shows: the values that document 01 gives it
-values-are : (K : tie.In-Shown-2) → let A = K.before in let a = A.before.before.before.before.before.args in
+values-are : (K : tie.In-Shown) → let A = K.before in let a = A.before.before.before.before.before.args in
     values_of (Shown K.in-Shown.s) ≡ values_at a.rows.now a.count a.text.now a.catalogue.now a.row a.field a.which
 values-are K = ap values_of (sym K.in-Shown.is) ∙ K.before.cell_answer-a.ensures
 

@@ -15,7 +15,7 @@ use Rattle.tollgilt.proofs.fresh.fresh_pages.Tie as tie
 
 -- the room is enough
 roomy : (c : tie.Else-not-pages_fit) → 12600 ≤ length c.before.before.before.before.before.before.args.out.now
-roomy c = leb-true page_room _ (sym c.before.pages_fit.ensures ∙ not-false _ c.if-not-pages_fit.false)
+roomy c = leb-true page_room _ (sym c.before.pages_fit.ensures ∙ c.if-not-pages_fit.false)
 
 pages-fit-requires : tie.Need-pages_fit-requires
 pages-fit-requires c κs = search rules
@@ -25,7 +25,7 @@ abbrev start : tie.After-read-reading → tie.Start
 start c = c.before.before.before.before.before.before.before.before.before
 
 -- what reading gives is the call's
-read_at : (c : tie.After-read-reading) → let a = (start c).args in Reads.Promised (fresh_call (length a.out.now) a.buffer.now a.starts.now a.lens.now) rows₀ text₀ c.read-reading.result c.read-reading.new.1.1.1.0 c.read-reading.new.1.1.1.1.0
+read_at : (c : tie.After-read-reading) → let a = (start c).args in Reads.Promised (fresh_call (length a.out.now) a.buffer.now a.starts.now a.lens.now) rows₀ text₀ c.read-reading.result c.read-reading.new.rows c.read-reading.new.text
 read_at c = read_within (start c).args.out.now _ _ _ (roomy c.before.before.before) _ _ c.read-reading.result c.read-reading.ensures
 
 refused-requires : tie.Need-refused-requires
@@ -35,7 +35,7 @@ returns : tie.Need-returns-then-not-pages_fit
 returns c =
     let T = c.before in
     let s = T.before.before.before.before.before.before in
-    refuses _ s.args.out.now _ 1 0 0 (no_room s.args.out.now _ _ _ (leb-false page_room _ (sym T.before.pages_fit.ensures ∙ not-true _ T.if-not-pages_fit.true))) c.refused.ensures
+    refuses _ s.args.out.now _ 1 0 0 (no_room s.args.out.now _ _ _ (leb-false page_room _ (sym T.before.pages_fit.ensures ∙ T.if-not-pages_fit.true))) c.refused.ensures
 
 slice-aggregate-read : tie.Need-slice_bounds-read-end
 slice-aggregate-read c = search rules

@@ -36,7 +36,7 @@ returns-4 : tie.Need-returns-then-not-all_in
 returns-4 c =
     let A = c.before in
     let N = A.before.before.before.before in
-    no_digits N.before.before.args.input.now N.next_page-end.result N.next_page-end.ensures.0 N.next_page-end.ensures.1 (sym A.all_in.ensures ∙ not-true _ c.if-not-all_in.true)
+    no_digits N.before.before.args.input.now N.next_page-end.result N.next_page-end.ensures.0 N.next_page-end.ensures.1 (sym A.all_in.ensures ∙ c.if-not-all_in.true)
 
 shown-requires : tie.Need-shown-requires
 shown-requires c κs = search rules
@@ -51,7 +51,7 @@ returns-5 c =
     let F = A.before in
     let N = F.before.before.before in
     a_number N.before.before.args.input.now N.next_page-end.result N.next_page-end.ensures.0 N.next_page-end.ensures.1 F.before.before.if-end-input.false F.before.if-end-lt1.false F.if-end-gt8.false
-    (sym A.all_in.ensures ∙ not-false _ D.if-not-all_in.false) c.shown.result c.shown.ensures
+    (sym A.all_in.ensures ∙ D.if-not-all_in.false) c.shown.result c.shown.ensures
 
 pub asked_for_spec : {M : Type 1} → statement M
 asked_for_spec =

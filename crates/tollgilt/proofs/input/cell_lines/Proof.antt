@@ -42,31 +42,31 @@ at_zero F = line (bytes "zero") (numeral F.flag-number2.result)
 
 -- where the flags were told, by the line that was last written
 abbrev first : tie.After-count_line-a → tie.After-flag_number-zero
-first c = c.before.before.before.before
+first c = c.before.before.before.before.before
 
 abbrev second : tie.After-count_line-b → tie.After-count_line-a
-second c = c.before.before.before.before.before
+second c = c.before.before.before.before.before.before
 
 abbrev third : tie.After-count_line-c → tie.After-count_line-b
-third c = c.before.before.before.before.before
+third c = c.before.before.before.before.before.before
 
 abbrev fourth : tie.After-count_line-d → tie.After-count_line-c
-fourth c = c.before.before.before.before.before
+fourth c = c.before.before.before.before.before.before
 
 -- how far the lines are written then
 begun : (F : tie.After-flag_number-zero) → Going (start F).args.out.now (start F).args.out.now 0 0 (print (at_five F)) (print (at_five F))
 begun F = going_start (fit F)
 
-going-1 : (c : tie.After-count_line-a) → let F = first c in Going (start F).args.out.now c.count_line-a.new.0 0 c.count_line-a.result (print (at_five F)) (print (drop 1 (at_five F)))
+going-1 : (c : tie.After-count_line-a) → let F = first c in Going (start F).args.out.now c.count_line-a.new.out 0 c.count_line-a.result (print (at_five F)) (print (drop 1 (at_five F)))
 going-1 c = let F = first c in next_on (at_source F) (drop 1 (at_five F)) (begun F) c.count_line-a.ensures
 
-going-2 : (c : tie.After-count_line-b) → let F = first (second c) in Going (start F).args.out.now c.count_line-b.new.0 0 c.count_line-b.result (print (at_five F)) (print (drop 2 (at_five F)))
+going-2 : (c : tie.After-count_line-b) → let F = first (second c) in Going (start F).args.out.now c.count_line-b.new.out 0 c.count_line-b.result (print (at_five F)) (print (drop 2 (at_five F)))
 going-2 c = let F = first (second c) in next_on (cut_at F) (drop 2 (at_five F)) (going-1 (second c)) c.count_line-b.ensures
 
-going-3 : (c : tie.After-count_line-c) → let F = first (second (third c)) in Going (start F).args.out.now c.count_line-c.new.0 0 c.count_line-c.result (print (at_five F)) (print (drop 3 (at_five F)))
+going-3 : (c : tie.After-count_line-c) → let F = first (second (third c)) in Going (start F).args.out.now c.count_line-c.new.out 0 c.count_line-c.result (print (at_five F)) (print (drop 3 (at_five F)))
 going-3 c = let F = first (second (third c)) in next_on (left_at F) (drop 3 (at_five F)) (going-2 (third c)) c.count_line-c.ensures
 
-going-4 : (c : tie.After-count_line-d) → let F = first (second (third (fourth c))) in Going (start F).args.out.now c.count_line-d.new.0 0 c.count_line-d.result (print (at_five F)) (print (drop 4 (at_five F)))
+going-4 : (c : tie.After-count_line-d) → let F = first (second (third (fourth c))) in Going (start F).args.out.now c.count_line-d.new.out 0 c.count_line-d.result (print (at_five F)) (print (drop 4 (at_five F)))
 going-4 c = let F = first (second (third (fourth c))) in next_on (at_zero F) (drop 4 (at_five F)) (going-3 (fourth c)) c.count_line-d.ensures
 
 flag-number-requires : tie.Need-flag_number-more-requires
@@ -82,13 +82,13 @@ count-line-requires : tie.Need-count_line-a-requires
 count-line-requires c κs = let F = c.before.before.before in next_fits (at_source F) (drop 1 (at_five F)) (begun F.before)
 
 count-line-requires-2 : tie.Need-count_line-b-requires
-count-line-requires-2 c κs = let C = c.before.before.before.before in next_fits (cut_at (first C)) (drop 2 (at_five (first C))) (going-1 C.before)
+count-line-requires-2 c κs = let C = c.before.before.before.before in next_fits (cut_at (first C.before)) (drop 2 (at_five (first C.before))) (going-1 C.before)
 
 count-line-requires-3 : tie.Need-count_line-c-requires
-count-line-requires-3 c κs = let C = c.before.before.before.before in let F = first (second C) in next_fits (left_at F) (drop 3 (at_five F)) (going-2 C.before)
+count-line-requires-3 c κs = let C = c.before.before.before.before in let F = first (second C.before) in next_fits (left_at F) (drop 3 (at_five F)) (going-2 C.before)
 
 count-line-requires-4 : tie.Need-count_line-d-requires
-count-line-requires-4 c κs = let C = c.before.before.before.before in let F = first (second (third C)) in next_fits (at_zero F) (drop 4 (at_five F)) (going-3 C.before)
+count-line-requires-4 c κs = let C = c.before.before.before.before in let F = first (second (third C.before)) in next_fits (at_zero F) (drop 4 (at_five F)) (going-3 C.before)
 
 slice-aggregate-text-line : tie.Need-slice_bounds-text_line-end-2
 slice-aggregate-text-line c = search rules

@@ -25,11 +25,11 @@ all-rows = length-replicate {A = ℕ} 256 0
 -- pages that are a plan
 module _ (c : tie.Then-refusal-eq0) where
   abbrev found : tie.After-find_pages-found
-  found = c.before.before.before
+  found = c.before.before.before.before.before
 
-  listed : (found.find-pages.result.rows ≤ length found.find-pages.last.1.1.1.1.0) × (held_lines (take found.find-pages.result.rows found.find-pages.last.1.1.1.1.0) ≡ found_in (start found).args.number (start found).args.input.now)
+  listed : (found.find_pages-found.result.rows ≤ length found.find_pages-found.last.1.1.1.1.0) × (held_lines (take found.find_pages-found.result.rows found.find_pages-found.last.1.1.1.1.0) ≡ found_in (start found).args.number (start found).args.input.now)
   listed =
-      rows_listed (start found).args.number (start found).args.input.now _ _ _ found.find-pages.result _ all-rows (split found).split.ensures.2 found.find-pages.ensures
+      rows_listed (start found).args.number (start found).args.input.now _ _ _ found.find_pages-found.result _ all-rows (split found).split.ensures.2 found.find_pages-found.ensures
       (sym c.before.before.before.refusal_number-refusal.ensures ∙ c.before.before.if-refusal-eq0.true)
 
 -- pages that are refused
@@ -40,10 +40,10 @@ module _ (c : tie.After-refusal_place) where
   abbrev refused : tie.After-find_pages-found
   refused = numbered.before.before
 
-  refusal : refusal_lines numbered.refusal-number.result c.before.refusal_page.result c.refusal_place.result ≡ found_in (start refused).args.number (start refused).args.input.now
+  refusal : refusal_lines numbered.refusal_number-refusal.result c.before.refusal_page.result c.refusal_place.result ≡ found_in (start refused).args.number (start refused).args.input.now
   refusal =
-      refusal_listed (start refused).args.number (start refused).args.input.now _ _ _ refused.find-pages.result _ all-rows (split refused).split.ensures.2 refused.find-pages.ensures
-      _ _ _ numbered.refusal-number.ensures c.before.refusal_page.ensures c.refusal_place.ensures c.before.before.if-refusal-eq0.false
+      refusal_listed (start refused).args.number (start refused).args.input.now _ _ _ refused.find_pages-found.result _ all-rows (split refused).split.ensures.2 refused.find_pages-found.ensures
+      _ _ _ numbered.refusal_number-refusal.ensures c.before.refusal_page.ensures c.refusal_place.ensures c.before.before.if-refusal-eq0.false
 
 split-requires : tie.Need-split-parts-requires
 split-requires c κs = search rules
@@ -76,7 +76,7 @@ held-lines-requires : tie.Need-held_lines-requires
 held-lines-requires c κs =
     let T = c.before.before in
     let S = start (found T) in
-    ((listed T).0, omega (arith, S.pre, ap length (listed T).1, found_in_short S.args.number S.args.input.now))
+    ((listed T).0, omega (arith, S.requires, ap length (listed T).1, found_in_short S.args.number S.args.input.now))
 
 same_length : tie.Need-shape_of-out-then-refusal-eq0
 same_length c = search rules
@@ -85,7 +85,7 @@ returns : tie.Need-returns-then-refusal-eq0
 returns c =
     let H = c.before.before in
     let T = H.before.before.before in
-    bytes_as (listed T).1 (start (found T)).args.out.now _ _ H.held_lines.ensures
+    bytes_as (listed T).1 (start (found T)).args.out.now _ _ H.held-lines.ensures
 
 refusal-page-requires : tie.Need-refusal_page-requires
 refusal-page-requires c κs = search rules
@@ -95,18 +95,18 @@ refusal-place-requires c κs = search rules
 
 list-refusal-requires : tie.Need-list_refusal-requires
 list-refusal-requires c κs =
-    let P = c.before in
+    let P = c.before.before in
     let S = start (refused P) in
-    omega (arith, S.pre, ap length (refusal P), found_in_short S.args.number S.args.input.now)
+    omega (arith, S.requires, ap length (refusal P), found_in_short S.args.number S.args.input.now)
 
 same-length-2 : tie.Need-shape_of-out
 same-length-2 c = search rules
 
 returns-2 : tie.Need-returns
 returns-2 c =
-    let R = c.before.before in
+    let R = c.before.before.before.before.before.before in
     let P = R.before.before in
-    bytes_as (refusal P) (start (refused P)).args.out.now _ _ R.list_refusal.ensures
+    bytes_as (refusal P) (start (refused P)).args.out.now _ _ R.list-refusal.ensures
 
 pub found_in_spec : {M : Type 1} → statement M
 found_in_spec =

@@ -28,7 +28,7 @@ fit : (S : tie.Start invariant-loop decreases-loop) → Fits S.args.out.now 0 (p
 fit S = all_fit S.args.list.now S.args.count S.requires.0 S.args.out.now S.requires.1
 
 -- those of the rows behind the count's
-rows_fit : (c : tie.After-count_line-a invariant-loop decreases-loop) → Fits c.count_line-a.new.0 c.count_line-a.result (rows_of c.before.before.before.before.before)
+rows_fit : (c : tie.After-count_line-a invariant-loop decreases-loop) → Fits c.count_line-a.new.out c.count_line-a.result (rows_of c.before.before.before.before.before)
 rows_fit c = let S = c.before.before.before.before.before in second_fits (rows_of S) (fit S.before) c.count_line-a.ensures
 
 -- where the count was written, and where the call began
@@ -58,7 +58,7 @@ row-line-requires c κs =
     let L = I.before in
     let S = start L in
     going_fits L.loop-i.invariant.1 (print (line (bytes "row") (numeral (get_or S.args.list.now L.loop-i.i 0)) ∷ [])) (print (row_lines (drop (L.loop-i.i + 1) (take S.args.count S.args.list.now))))
-    (next_line S.args.list.now S.args.count S.pre.0 L.loop-i.i I.loop-i-test.true)
+    (next_line S.args.list.now S.args.count S.requires.0 L.loop-i.i I.loop-i-test.true)
 
 add-i : tie.Need-overflow_add-i invariant-loop decreases-loop
 add-i c = search rules
@@ -74,7 +74,7 @@ loop-again c =
     let S = start L in (
       search rules,
       going_on L.loop-i.invariant.1 (print (line (bytes "row") (numeral (get_or S.args.list.now L.loop-i.i 0)) ∷ [])) (print (row_lines (drop (L.loop-i.i + 1) (take S.args.count S.args.list.now))))
-          (next_line S.args.list.now S.args.count S.pre.0 L.loop-i.i I.loop-i-test.true) R.row_Line.ensures,
+          (next_line S.args.list.now S.args.count S.requires.0 L.loop-i.i I.loop-i-test.true) R.row_line-a.ensures,
     )
 
 same_length : tie.Need-shape_of-out invariant-loop decreases-loop
@@ -85,8 +85,8 @@ returns c =
     let L = c.before in
     let S = start L in
     let C = counting L in
-    written_whole (wrote_as (count_first S.args.list.now S.args.count S.pre.0) (both_written (fit S) C.count-line.ensures
-    (going_done (rows_fit C) L.loop-i.invariant.1 (no_line S.args.list.now S.args.count S.pre.0 L.loop-i.i c.loop-i-test.false))))
+    written_whole (wrote_as (count_first S.args.list.now S.args.count S.requires.0) (both_written (fit S) C.count_line-a.ensures
+    (going_done (rows_fit C) L.loop-i.invariant.1 (no_line S.args.list.now S.args.count S.requires.0 L.loop-i.i c.loop-i-test.false))))
 
 pub held_lines_spec : {M : Type 1} → statement M
 held_lines_spec =

@@ -18,7 +18,7 @@ split c = c.before.before.before.before.before.before
 
 -- the room is enough
 roomy : (c : tie.Else-not-listing_fits) → leb listing_room (length c.before.before.before.before.args.out.now) ≡ true
-roomy c = sym c.before.listing_fits.ensures ∙ not-false _ c.if-not-listing_fits.false
+roomy c = sym c.before.listing_fits.ensures ∙ c.if-not-listing_fits.false
 
 listing-fits-requires : tie.Need-listing_fits-requires
 listing-fits-requires c κs = search rules
@@ -26,7 +26,7 @@ listing-fits-requires c κs = search rules
 returns : tie.Need-returns-then-not-listing_fits
 returns c =
     let s = c.before.before.before.before in
-    none_printed s.args.out.now (list_no_room s.args.out.now s.args.input.now (sym c.before.listing_fits.ensures ∙ not-true _ c.if-not-listing_fits.true))
+    none_printed s.args.out.now (list_no_room s.args.out.now s.args.input.now (sym c.before.listing_fits.ensures ∙ c.if-not-listing_fits.true))
 
 split-requires : tie.Need-split-parts-requires
 split-requires c κs = search rules

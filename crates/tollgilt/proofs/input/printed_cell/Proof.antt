@@ -24,7 +24,7 @@ all-bytes = length-replicate {A = ℕ} 80 0
 
 -- the lines fit
 short : (c : tie.After-cell_pages-shown) → let a = (start c).args in length (cell_printed a.row a.field a.which a.catalogue.now a.input.now) ≤ length a.out.now
-short c = let S = start c in omega (arith, S.pre.1, printed_short S.args.row S.args.field S.args.which S.args.catalogue.now S.args.input.now S.pre.0)
+short c = let S = start c in omega (arith, S.requires.1, printed_short S.args.row S.args.field S.args.which S.args.catalogue.now S.args.input.now S.requires.0)
 
 split-requires : tie.Need-split-parts-requires
 split-requires c κs = search rules

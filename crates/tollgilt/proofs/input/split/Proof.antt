@@ -14,23 +14,23 @@ use Rattle.tollgilt.proofs.input.split.Tie as tie
 
 module _ (c : tie.After-split_pages-k) where
   abbrev counting : tie.After-counted-n
-  counting = c.before.before.before.before
+  counting = c.before.before.before
 
   abbrev input : List ℕ
   input = counting.before.before.args.input.now
 
   -- there is room for ten starts and ten lengths
-  starts-ten : length c.split_pages-k.new.1.0 ≡ 10
+  starts-ten : length c.split_pages-k.new.starts ≡ 10
   starts-ten = search rules
 
-  lens-ten : length c.split_pages-k.new.1.1.0 ≡ 10
+  lens-ten : length c.split_pages-k.new.lens ≡ 10
   lens-ten = search rules
 
   -- which is as many as there are pages to hand in, or more
-  starts-many : c.split_pages-k.result ≤ length c.split_pages-k.new.1.0
-  starts-many = omega (arith, starts-ten, c.split_pages-k.ensures.0, length-take 10 (parted (take counting.counted.result input)))
+  starts-many : c.split_pages-k.result ≤ length c.split_pages-k.new.starts
+  starts-many = omega (arith, starts-ten, c.split_pages-k.ensures.0, length-take 10 (parted (take counting.counted-n.result input)))
 
-  lens-many : c.split_pages-k.result ≤ length c.split_pages-k.new.1.1.0
+  lens-many : c.split_pages-k.result ≤ length c.split_pages-k.new.lens
   lens-many = omega (arith, lens-ten, starts-ten, starts-many)
 
 counted-requires : tie.Need-counted-n-requires

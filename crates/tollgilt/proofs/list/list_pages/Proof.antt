@@ -14,7 +14,7 @@ use Rattle.tollgilt.proofs.list.list_pages.Tie as tie
 
 -- the room is enough
 roomy : (c : tie.Else-not-listing_fits) → 25200 ≤ length c.before.before.before.before.before.before.args.out.now
-roomy c = leb-true listing_room _ (sym c.before.listing_fits.ensures ∙ not-false _ c.if-not-listing_fits.false)
+roomy c = leb-true listing_room _ (sym c.before.listing_fits.ensures ∙ c.if-not-listing_fits.false)
 
 listing-fits-requires : tie.Need-listing_fits-requires
 listing-fits-requires c κs = search rules
@@ -25,7 +25,7 @@ start c = c.before.before.before.before.before.before.before.before.before
 
 -- reading gave a plan
 plan-at : (c : tie.Else-refusal_number-ne0) → let R = c.before.before.before.before in let a = (start R).args in
-    Listable (answered a.out.now a.buffer.now a.starts.now a.lens.now) R.read-reading.result R.read-reading.new.1.1.1.0 R.read-reading.new.1.1.1.1.0 a.out.now
+    Listable (answered a.out.now a.buffer.now a.starts.now a.lens.now) R.read-reading.result R.read-reading.new.rows R.read-reading.new.text a.out.now
 plan-at c =
     let R = c.before.before.before.before in
     listable (start R).args.out.now _ _ _ (roomy R.before.before.before) _ _ R.read-reading.result R.read-reading.ensures (sym c.before.refusal_number.ensures ∙ c.if-refusal_number-ne0.false)
@@ -33,7 +33,7 @@ plan-at c =
 returns : tie.Need-returns-then-not-listing_fits
 returns c =
     let s = c.before.before.before.before.before.before in
-    nothing_read _ s.args.out.now (no_room s.args.out.now _ _ _ (leb-false listing_room _ (sym c.before.listing_fits.ensures ∙ not-true _ c.if-not-listing_fits.true)))
+    nothing_read _ s.args.out.now (no_room s.args.out.now _ _ _ (leb-false listing_room _ (sym c.before.listing_fits.ensures ∙ c.if-not-listing_fits.true)))
 
 slice-aggregate-read : tie.Need-slice_bounds-read-end
 slice-aggregate-read c = search rules

@@ -58,7 +58,7 @@ loop-again c =
     let R = Z.before.before.before in
     let I = R.before.before.before in
     let L = I.before in
-    measured_next R.row_measure-m.new.1.1.1.1.0 _ _ L.loop-i.invariant I.loop-i-test.true R.row_measure-m.ensures.0 R.row_measure-m.ensures.1 (search rules) c.if-end-le-PAGES.true (λ l. ap (λ (x : ℕ). L.loop-i.at + x) Z.size_in.ensures.0)
+    measured_next R.row_measure-m.new.scratch _ _ L.loop-i.invariant I.loop-i-test.true R.row_measure-m.ensures.0 R.row_measure-m.ensures.1 (search rules) c.if-end-le-PAGES.true (λ l. ap (λ (x : ℕ). L.loop-i.at + x) Z.size_in.ensures.0)
 
 loop-less-2 : tie.Need-loop-i-smaller invariant-loop decreases-loop
 loop-less-2 c = search rules
@@ -69,7 +69,7 @@ loop-again-2 c =
     let R = Z.before.before.before in
     let I = R.before.before.before in
     let L = I.before in
-    measured_next R.row_measure-m.new.1.1.1.1.0 _ _ L.loop-i.invariant I.loop-i-test.true R.row_measure-m.ensures.0 R.row_measure-m.ensures.1 (search rules) L.loop-i.invariant.low (λ l. absurd (omega (arith, l, c.if-end-le-PAGES.false, Z.size_in.ensures.0)))
+    measured_next R.row_measure-m.new.scratch _ _ L.loop-i.invariant I.loop-i-test.true R.row_measure-m.ensures.0 R.row_measure-m.ensures.1 (search rules) L.loop-i.invariant.low (λ l. absurd (omega (arith, l, c.if-end-le-PAGES.false, Z.size_in.ensures.0)))
 
 same_length : tie.Need-shape_of-scratch invariant-loop decreases-loop
 same_length c = c.before.loop-i.invariant.scratch

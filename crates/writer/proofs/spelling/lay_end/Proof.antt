@@ -33,17 +33,17 @@ fit E = let S = E.before.before.before.before.before.before in let a = S.args in
 sign-in : (E : tie.Else-rows-from-eq0) → let S = E.before.before.before.before.before.before in Going S.args.out.now (set S.args.out.now S.args.at 62) S.args.at (S.args.at + 1) (whole S) (one S ++ (sub S 4 ++ (sub S 8 ++ bytes "</M>")))
 sign-in E = byte_on (going_start (fit E))
 
-one_in : (c : tie.After-lay_substance-a) → let S = c.before.before.before.before.before.before.before.before in Going S.args.out.now c.lay_substance-a.new.0 S.args.at c.lay_substance-a.result (whole S) (sub S 4 ++ (sub S 8 ++ bytes "</M>"))
+one_in : (c : tie.After-lay_substance-a) → let S = c.before.before.before.before.before.before.before.before in Going S.args.out.now c.lay_substance-a.new.out S.args.at c.lay_substance-a.result (whole S) (sub S 4 ++ (sub S 8 ++ bytes "</M>"))
 one_in c = let S = c.before.before.before.before.before.before.before.before in going_on (sign-in c.before.before) (one S) (sub S 4 ++ (sub S 8 ++ bytes "</M>")) refl c.lay_substance-a.ensures
 
-two_in : (c : tie.After-lay_substance-b) → let S = c.before.before.before.before.before.before.before.before.before.before.before.before in Going S.args.out.now c.lay_substance-b.new.0 S.args.at c.lay_substance-b.result (whole S) (sub S 8 ++ bytes "</M>")
+two_in : (c : tie.After-lay_substance-b) → let S = c.before.before.before.before.before.before.before.before.before.before.before.before in Going S.args.out.now c.lay_substance-b.new.out S.args.at c.lay_substance-b.result (whole S) (sub S 8 ++ bytes "</M>")
 two_in c = let S = c.before.before.before.before.before.before.before.before.before.before.before.before in going_on (one_in c.before.before.before.before) (sub S 4) (sub S 8 ++ bytes "</M>") refl c.lay_substance-b.ensures
 
-three-in : (c : tie.After-lay_substance-c) → let S = c.before.before.before.before.before.before.before.before.before.before.before.before.before.before.before.before in Going S.args.out.now c.lay_substance-c.new.0 S.args.at c.lay_substance-c.result (whole S) (bytes "</M>")
+three-in : (c : tie.After-lay_substance-c) → let S = c.before.before.before.before.before.before.before.before.before.before.before.before.before.before.before.before in Going S.args.out.now c.lay_substance-c.new.out S.args.at c.lay_substance-c.result (whole S) (bytes "</M>")
 three-in c = let S = c.before.before.before.before.before.before.before.before.before.before.before.before.before.before.before.before in going_on (two_in c.before.before.before.before) (sub S 8) (bytes "</M>") refl c.lay_substance-c.ensures
 
 -- all is written
-all_in : (c : tie.After-lay-2) → let S = c.before.before.before.before.before.before.before.before.before.before.before.before.before.before.before.before.before.before.before.before.before.before in Wrote S.args.out.now c.lay-2.new.0 S.args.at c.lay-2.result (whole S)
+all_in : (c : tie.After-lay-2) → let S = c.before.before.before.before.before.before.before.before.before.before.before.before.before.before.before.before.before.before.before.before.before.before in Wrote S.args.out.now c.lay-2.new.out S.args.at c.lay-2.result (whole S)
 all_in c = last_on (three-in c.before.before.before.before.before.before) (fit c.before.before.before.before.before.before.before.before.before.before.before.before.before.before.before.before) (wrote c.lay-2.ensures)
 
 -- without a W the two bytes fit

@@ -40,12 +40,12 @@ head-is : (H : tie.After-head_numbers-numbers) → let a = (from-numbers H).args
 head-is H =
     let S = from-numbers H in
     let a = S.args in
-    front_by a.text.now a.plan a.a a.z H.head_numbers-numbers.result (long H) S.pre.2 S.pre.3 H.head_numbers-numbers.ensures ∙ ap (λ (y : List ℕ). start H ++ y) (sym S.pre.4)
+    front_by a.text.now a.plan a.a a.z H.head_numbers-numbers.result (long H) S.requires.2 S.requires.3 H.head_numbers-numbers.ensures ∙ ap (λ (y : List ℕ). start H ++ y) (sym S.requires.4)
 
 fit : (H : tie.After-head_numbers-numbers) → let a = (from-numbers H).args in Fits a.out.now a.at (start H ++ people H)
 fit H = fits_as (head-is H) (fits (from-numbers H).requires.5)
 
-start-in : (c : tie.After-lay_start-b) → let H = from_start c in let a = (from-numbers H).args in Going a.out.now c.lay_start-b.new.0 a.at c.lay_start-b.result (start H ++ people H) (people H)
+start-in : (c : tie.After-lay_start-b) → let H = from_start c in let a = (from-numbers H).args in Going a.out.now c.lay_start-b.new.out a.at c.lay_start-b.result (start H ++ people H) (people H)
 start-in c = let H = from_start c in going_on (going_start (fit H)) (start H) (people H) refl c.lay_start-b.ensures
 
 head-numbers-requires : tie.Need-head_numbers-numbers-requires
@@ -59,7 +59,7 @@ lay-start-requires c κs =
     let H = c.before.before in
     let S = from-numbers H in
     let a = S.args in
-    (S.pre.0, S.pre.2, S.pre.3, search rules, head_inside a.text.now a.plan H.head_numbers-numbers.result (long H) H.head_numbers-numbers.ensures S.pre.1 0 2 (omega arith), going_fits (going_start (fit H)) (start H) (people H) refl)
+    (S.requires.0, S.requires.2, S.requires.3, search rules, head_inside a.text.now a.plan H.head_numbers-numbers.result (long H) H.head_numbers-numbers.ensures S.requires.1 0 2 (omega arith), going_fits (going_start (fit H)) (start H) (people H) refl)
 
 lay-requires : tie.Need-lay-requires
 lay-requires c κs = last_fits (start-in c.before.before.before)

@@ -24,7 +24,7 @@ use Rattle.writer.proofs.spelling.lay_medication.Tie as tie
 
 -- the row taken apart, as each piece finds it
 abbrev row-lay : tie.After-lay-a → tie.After-row_at-row
-row-lay c = c.before.before.before
+row-lay c = c.before.before.before.before
 
 abbrev row_number : tie.After-lay_number-b → tie.After-row_at-row
 row_number c = row-lay c.before.before.before.before
@@ -92,30 +92,30 @@ place : (i n : ℕ) → i * 48 + 2 + n ≡ i * 48 + (2 + n)
 place i n = omega arith
 
 -- what is left behind each piece
-begun : (c : tie.After-lay-a) → Left (row-lay c) c.lay-a.new.0 c.lay-a.result (from-parcel (call (row-lay c)))
+begun : (c : tie.After-lay-a) → Left (row-lay c) c.lay-a.new.out c.lay-a.result (from-parcel (call (row-lay c)))
 begun c = let S = call (row-lay c) in going_on (going_start (fit S)) (bytes "<M") (from-parcel S) refl (wrote c.lay-a.ensures)
 
-package-in : (c : tie.After-lay_number-b) → let S = call (row_number c) in Left (row_number c) c.lay_number-b.new.0 c.lay_number-b.result (front S ++ from-dose S)
+package-in : (c : tie.After-lay_number-b) → let S = call (row_number c) in Left (row_number c) c.lay_number-b.new.out c.lay_number-b.result (front S ++ from-dose S)
 package-in c =
     let S = call (row_number c) in
     going_on (begun c.before.before.before.before) (parcel S) (front S ++ from-dose S) refl (wrote_as (ap (λ (n : ℕ). attribute (bytes "p") (decimal n)) (sym (number-told (row_number c)))) c.lay_number-b.ensures)
 
-front-in : (c : tie.After-lay_fields-c) → Left (row-fields c) c.lay_fields-c.new.0 c.lay_fields-c.result (from-dose (call (row-fields c)))
+front-in : (c : tie.After-lay_fields-c) → Left (row-fields c) c.lay_fields-c.new.out c.lay_fields-c.result (from-dose (call (row-fields c)))
 front-in c = let S = call (row-fields c) in going_on (package-in c.before.before.before.before) (front S) (from-dose S) refl c.lay_fields-c.ensures
 
-dose-in : (c : tie.After-lay_dose-d) → let S = call (row-dose c) in Left (row-dose c) c.lay_dose-d.new.0 c.lay_dose-d.result (behind S ++ end S)
+dose-in : (c : tie.After-lay_dose-d) → let S = call (row-dose c) in Left (row-dose c) c.lay_dose-d.new.out c.lay_dose-d.result (behind S ++ end S)
 dose-in c =
     let S = call (row-dose c) in
     going_on (front-in c.before.before.before.before) (dose S) (behind S ++ end S) refl (wrote_as (ap (λ (d : Dose). dose_text (paper_dose S.args.text.now d)) (sym (dose-told (row-dose c)))) c.lay_dose-d.ensures)
 
-behind-in : (c : tie.After-lay_fields-e) → Left (row-fields2 c) c.lay_fields-e.new.0 c.lay_fields-e.result (end (call (row-fields2 c)))
+behind-in : (c : tie.After-lay_fields-e) → Left (row-fields2 c) c.lay_fields-e.new.out c.lay_fields-e.result (end (call (row-fields2 c)))
 behind-in c =
     let S = call (row-fields2 c) in
     let a = S.args in
     going_on (dose-in c.before.before.before.before) (behind S) (end S) refl (wrote_as (ap (λ (k : ℕ). fields_text 42 5 a.text.now k a.rows.now) (sym (place a.i 16))) c.lay_fields-e.ensures)
 
 -- all is written
-all_in : (c : tie.After-lay_end) → let S = call (row-end c) in Wrote S.args.out.now c.lay_end.new.0 S.args.at c.lay_end.result (whole S)
+all_in : (c : tie.After-lay_end) → let S = call (row-end c) in Wrote S.args.out.now c.lay_end.new.out S.args.at c.lay_end.result (whole S)
 all_in c =
     let S = call (row-end c) in
     let a = S.args in
@@ -137,7 +137,7 @@ add-substances : tie.Need-overflow_add-substances
 add-substances c = search rules
 
 lay-requires : tie.Need-lay-a-requires
-lay-requires c κs = let S = call c.before.before in going_fits (going_start (fit S)) (bytes "<M") (from-parcel S) refl
+lay-requires c κs = let S = call c.before.before.before in going_fits (going_start (fit S)) (bytes "<M") (from-parcel S) refl
 
 lay-number-requires : tie.Need-lay_number-b-requires
 lay-number-requires c κs =
@@ -150,15 +150,15 @@ lay-fields-requires c κs =
     let N = c.before.before.before in
     let S = call (row_number N) in
     let a = S.args in
-    (S.pre.0, search rules, omega (arith, S.pre.1), spans_inside a.text.now a.rows.now a.i 3 0 (omega arith) S.pre.2, going_fits (package-in N) (front S) (from-dose S) refl)
+    (S.requires.0, search rules, omega (arith, S.requires.1), spans_inside a.text.now a.rows.now a.i 3 0 (omega arith) S.requires.2, going_fits (package-in N) (front S) (from-dose S) refl)
 
 lay-dose-requires : tie.Need-lay_dose-d-requires
 lay-dose-requires c κs =
     let F = c.before.before.before in
     let S = call (row-fields F) in
     let a = S.args in (
-      S.pre.0,
-      ap (dose_within (length a.text.now)) (dose-told (row-fields F)) ∙ dose_inside a.text.now (record_at a.rows.now a.i) S.pre.2,
+      S.requires.0,
+      ap (dose_within (length a.text.now)) (dose-told (row-fields F)) ∙ dose_inside a.text.now (record_at a.rows.now a.i) S.requires.2,
       rw (dose-told (row-fields F)) (going_fits (front-in F) (dose S) (behind S ++ end S) refl),
     )
 
@@ -168,14 +168,14 @@ lay-fields-requires-2 c κs =
     let S = call (row-dose D) in
     let a = S.args in
     rw (place a.i 16)
-    (S.pre.0, search rules, omega (arith, S.pre.1), spans_inside a.text.now a.rows.now a.i 5 8 (omega arith) S.pre.2, going_fits (dose-in D) (behind S) (end S) refl)
+    (S.requires.0, search rules, omega (arith, S.requires.1), spans_inside a.text.now a.rows.now a.i 5 8 (omega arith) S.requires.2, going_fits (dose-in D) (behind S) (end S) refl)
 
 lay-end-requires : tie.Need-lay_end-requires
 lay-end-requires c κs =
     let B = c.before.before.before in
     let S = call (row-fields2 B) in
     let a = S.args in
-    rw (place a.i 26) (S.pre.0, omega (arith, S.pre.1), spans_inside a.text.now a.rows.now a.i 6 13 (omega arith) S.pre.2, last_fits (behind-in B))
+    rw (place a.i 26) (S.requires.0, omega (arith, S.requires.1), spans_inside a.text.now a.rows.now a.i 6 13 (omega arith) S.requires.2, last_fits (behind-in B))
 
 same_length : tie.Need-shape_of-out
 same_length c = let E = c.before.before in room_kept (fit (call (row-end E))) (all_in E)

@@ -27,7 +27,7 @@ fit : (S : tie.Start) → Fits S.args.out.now S.args.at (top S ++ rest S)
 fit S = fits S.requires.6
 
 -- the rows are left behind the head
-top_in : (c : tie.After-lay_front-b) → let S = from_front c in Going S.args.out.now c.lay_front-b.new.0 S.args.at c.lay_front-b.result (top S ++ rest S) (rest S)
+top_in : (c : tie.After-lay_front-b) → let S = from_front c in Going S.args.out.now c.lay_front-b.new.out S.args.at c.lay_front-b.result (top S ++ rest S) (rest S)
 top_in c = let S = from_front c in going_on (going_start (fit S)) (top S) (rest S) refl c.lay_front-b.ensures
 
 lay-front-requires : tie.Need-lay_front-b-requires

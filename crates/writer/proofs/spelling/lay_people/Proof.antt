@@ -23,10 +23,10 @@ abbrev from-numbers : tie.After-head_numbers-numbers → tie.Start
 from-numbers H = H.before.before.before.before.before
 
 abbrev from-tag : tie.After-lay_tag-b → tie.After-head_numbers-numbers
-from-tag c = c.before.before.before.before.before
+from-tag c = c.before.before.before.before.before.before.before
 
 abbrev from-tag-2 : tie.After-lay_tag-o → tie.After-lay_tag-b
-from-tag-2 c = c.before.before.before.before.before.before.before
+from-tag-2 c = c.before.before.before.before.before.before.before.before.before
 
 -- there are 56 numbers, two for each span and two before them
 twice : (H : tie.After-head_numbers-numbers) → length H.head_numbers-numbers.result ≡ 56
@@ -52,20 +52,20 @@ people-is : (H : tie.After-head_numbers-numbers) → let a = (from-numbers H).ar
 people-is H =
     let S = from-numbers H in
     let a = S.args in
-    people_by a.text.now a.plan H.head_numbers-numbers.result (long H) H.head_numbers-numbers.ensures S.pre.1
+    people_by a.text.now a.plan H.head_numbers-numbers.result (long H) H.head_numbers-numbers.ensures S.requires.1
 
 -- its spans lie in the text
 inside-at : (H : tie.After-head_numbers-numbers) (j n : ℕ) → j + n ≤ 27 → every (within (length (from-numbers H).args.text.now)) (spans_at n (2 + 2 * j) H.head_numbers-numbers.result) ≡ true
-inside-at H j n h = let S = from-numbers H in let a = S.args in head_inside a.text.now a.plan H.head_numbers-numbers.result (long H) H.head_numbers-numbers.ensures S.pre.1 j n h
+inside-at H j n h = let S = from-numbers H in let a = S.args in head_inside a.text.now a.plan H.head_numbers-numbers.result (long H) H.head_numbers-numbers.ensures S.requires.1 j n h
 
 fit : (H : tie.After-head_numbers-numbers) → let a = (from-numbers H).args in Fits a.out.now a.at (whole H)
 fit H = fits_as (people-is H) (fits (from-numbers H).requires.2)
 
 -- what is left behind each of them
-person-in : (c : tie.After-lay_tag-b) → let H = from-tag c in let a = (from-numbers H).args in Going a.out.now c.lay_tag-b.new.0 a.at c.lay_tag-b.result (whole H) (author H ++ measures H)
+person-in : (c : tie.After-lay_tag-b) → let H = from-tag c in let a = (from-numbers H).args in Going a.out.now c.lay_tag-b.new.out a.at c.lay_tag-b.result (whole H) (author H ++ measures H)
 person-in c = let H = from-tag c in going_on (going_start (fit H)) (person H) (author H ++ measures H) refl c.lay_tag-b.ensures
 
-author-in : (c : tie.After-lay_tag-o) → let H = from-tag (from-tag-2 c) in let a = (from-numbers H).args in Going a.out.now c.lay_tag-o.new.0 a.at c.lay_tag-o.result (whole H) (measures H)
+author-in : (c : tie.After-lay_tag-o) → let H = from-tag (from-tag-2 c) in let a = (from-numbers H).args in Going a.out.now c.lay_tag-o.new.out a.at c.lay_tag-o.result (whole H) (measures H)
 author-in c = let H = from-tag (from-tag-2 c) in going_on (person-in (from-tag-2 c)) (author H) (measures H) refl c.lay_tag-o.ensures
 
 head-numbers-requires : tie.Need-head_numbers-numbers-requires
@@ -80,12 +80,12 @@ slice-aggregate-lay-tag-2 c = search rules
 lay-tag-requires : tie.Need-lay_tag-b-requires
 lay-tag-requires c κs =
     let H = c.before.before.before.before in
-    ((from-numbers H).requires.0, search rules, search rules, inside-at H.before.before 2 8 (omega arith), going_fits (going_start (fit H.before.before)) (person H) (author H ++ measures H) refl)
+    ((from-numbers H.before.before).requires.0, search rules, search rules, inside-at H.before.before 2 8 (omega arith), going_fits (going_start (fit H.before.before)) (person H) (author H ++ measures H) refl)
 
 lay-tag-requires-2 : tie.Need-lay_tag-o-requires
 lay-tag-requires-2 c κs =
     let T = c.before.before.before.before.before.before in
-    let H = from-tag T in
+    let H = from-tag T.before.before in
     ((from-numbers H).pre.0, search rules, search rules, inside-at H 10 10 (omega arith), going_fits (person-in T.before.before) (author H) (measures H) refl)
 
 slice-aggregate-lay-measures : tie.Need-slice_bounds-lay_measures-end

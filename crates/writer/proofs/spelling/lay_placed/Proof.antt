@@ -36,7 +36,7 @@ heads-is : (c : tie.After-heads-heading) → let a = c.before.before.before.befo
 heads-is c = c.heads-heading.ensures ∙ ap (λ (k : Paper.Kind). Paper.is k Paper.S) (told c.before)
 
 -- the row is left
-gap-in : (c : tie.After-lay_gap-a) → let S = c.before.before.before.before.before.before.before.before in Going S.args.out.now c.lay_gap-a.new.0 S.args.at c.lay_gap-a.result (gap S ++ own S) (own S)
+gap-in : (c : tie.After-lay_gap-a) → let S = c.before.before.before.before.before.before.before.before in Going S.args.out.now c.lay_gap-a.new.out S.args.at c.lay_gap-a.result (gap S ++ own S) (own S)
 gap-in c =
     let S = c.before.before.before.before.before.before.before.before in
     going_on (going_start (fit S)) (gap S) (own S) refl (wrote_as (ap (gap_text S.args.inside) (sym (heads-is c.before.before))) c.lay_gap-a.ensures)

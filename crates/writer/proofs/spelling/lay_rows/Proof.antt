@@ -61,12 +61,12 @@ heading-first c =
     headed a.heading a.placed.now c.before.if-placed-eq0.false c.if-heading.true ∙ ap (λ (l : List ℕ). l ++ bytes "</S></MP>") (sym (rest a.placed.now))
 
 long : (c : tie.Then-heading) → 4 ≤ length (from-then-2 c).args.placed.now
-long c = let S = from-then-2 c in four S.args.heading S.args.placed.now c.before.if-placed-eq0.false c.if-heading.true S.pre.0
+long c = let S = from-then-2 c in four S.args.heading S.args.placed.now c.before.if-placed-eq0.false c.if-heading.true S.requires.0
 
 heading-fits : (c : tie.Then-heading) → let a = (from-then-2 c).args in Fits a.out.now a.at (part c ++ bytes "</S></MP>")
 heading-fits c = fits_as (heading-first c) (fits (from-then-2 c).requires.1)
 
-part_in : (c : tie.After-lay-a) → let I = c.before.before.before in let a = (from-then-2 I).args in Going a.out.now c.lay-a.new.0 a.at c.lay-a.result (part I ++ bytes "</S></MP>") (bytes "</S></MP>")
+part_in : (c : tie.After-lay-a) → let I = c.before.before.before in let a = (from-then-2 I).args in Going a.out.now c.lay-a.new.out a.at c.lay-a.result (part I ++ bytes "</S></MP>") (bytes "</S></MP>")
 part_in c = let I = c.before.before.before in going_on (going_start (heading-fits I)) (part I) (bytes "</S></MP>") refl (wrote c.lay-a.ensures)
 
 abbrev all : tie.Else-heading → List ℕ
@@ -78,14 +78,14 @@ other-first c = let a = (from-else-2 c).args in other a.heading a.placed.now c.b
 other_fits : (c : tie.Else-heading) → let a = (from-else-2 c).args in Fits a.out.now a.at (all c)
 other_fits c = fits_as (other-first c) (fits (from-else-2 c).requires.1)
 
-open_in : (c : tie.After-lay-b) → let I = c.before.before.before in let a = (from-else-2 I).args in Going a.out.now c.lay-b.new.0 a.at c.lay-b.result (all I) (a.placed.now ++ bytes "</S></MP>")
-open_in c = let I = c.before.before.before in going_on (going_start (other_fits I.before)) (bytes "<S>") ((from-else-2 I).args.placed.now ++ bytes "</S></MP>") refl (wrote c.lay-b.ensures)
+open_in : (c : tie.After-lay-b) → let I = c.before.before.before in let a = (from-else-2 I.before).args in Going a.out.now c.lay-b.new.out a.at c.lay-b.result (all I) (a.placed.now ++ bytes "</S></MP>")
+open_in c = let I = c.before.before.before in going_on (going_start (other_fits I.before)) (bytes "<S>") ((from-else-2 I.before).args.placed.now ++ bytes "</S></MP>") refl (wrote c.lay-b.ensures)
 
-rows_in : (c : tie.After-lay-c) → let I = c.before.before.before.before.before.before.before in let a = (from-else-2 I).args in Going a.out.now c.lay-c.new.0 a.at c.lay-c.result (all I) (bytes "</S></MP>")
-rows_in c = let O = c.before.before.before.before in let I = O.before.before.before.before.before.before.before in going_on (open_in O) (from-else-2 I).args.placed.now (bytes "</S></MP>") refl (wrote c.lay-c.ensures)
+rows_in : (c : tie.After-lay-c) → let I = c.before.before.before.before.before.before.before in let a = (from-else-2 I.before).args in Going a.out.now c.lay-c.new.out a.at c.lay-c.result (all I) (bytes "</S></MP>")
+rows_in c = let O = c.before.before.before.before in let I = O.before.before.before.before.before.before.before in going_on (open_in O) (from-else-2 I.before).args.placed.now (bytes "</S></MP>") refl (wrote c.lay-c.ensures)
 
 lay-requires : tie.Need-lay-requires
-lay-requires c κs = let I = c.before.before in omega (arith, ap length (no_rows I.before), (from-then-1 I).requires.1)
+lay-requires c κs = let I = c.before.before in omega (arith, ap length (no_rows I.before), (from-then-1 I.before).requires.1)
 
 same_length : tie.Need-shape_of-out-then-placed-eq0
 same_length c = search rules
@@ -115,10 +115,10 @@ returns-2 : tie.Need-returns-then-heading
 returns-2 c = let E = c.before.before in let P = E.before.before.before.before.before in let I = P.before.before.before in wrote_as (heading-first I.before) (last_on (part_in P.before) (heading-fits I.before) (wrote E.lay-then-heading.ensures))
 
 lay-requires-4 : tie.Need-lay-b-requires
-lay-requires-4 c κs = let I = c.before.before in going_fits (going_start (other_fits I.before)) (bytes "<S>") ((from-else-2 I).args.placed.now ++ bytes "</S></MP>") refl
+lay-requires-4 c κs = let I = c.before.before in going_fits (going_start (other_fits I.before)) (bytes "<S>") ((from-else-2 I.before).args.placed.now ++ bytes "</S></MP>") refl
 
 lay-requires-5 : tie.Need-lay-c-requires
-lay-requires-5 c κs = let O = c.before.before.before in let I = O.before.before.before in going_fits (open_in O) (from-else-2 I).args.placed.now (bytes "</S></MP>") refl
+lay-requires-5 c κs = let O = c.before.before.before in let I = O.before.before.before in going_fits (open_in O) (from-else-2 I.before).args.placed.now (bytes "</S></MP>") refl
 
 lay-requires-6 : tie.Need-lay-requires-2
 lay-requires-6 c κs = last_fits (rows_in c.before.before.before.before.before)

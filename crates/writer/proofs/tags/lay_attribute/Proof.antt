@@ -37,17 +37,17 @@ fit S = record { inside = S.requires.2 }
 blank-in : (S : tie.Start) → Going S.args.out.now (set S.args.out.now S.args.at 32) S.args.at (S.args.at + 1) (whole S) (name_of S.args.letters ++ (61 ∷ 34 ∷ (raw S ++ 34 ∷ [])))
 blank-in S = byte_on (going_start (fit S))
 
-name_in : (c : tie.After-lay_name-a) → let S = c.before.before.before.before in Going S.args.out.now c.lay_name-a.new.1.0 S.args.at c.lay_name-a.result (whole S) (61 ∷ 34 ∷ (raw S ++ 34 ∷ []))
+name_in : (c : tie.After-lay_name-a) → let S = c.before.before.before.before in Going S.args.out.now c.lay_name-a.new.out S.args.at c.lay_name-a.result (whole S) (61 ∷ 34 ∷ (raw S ++ 34 ∷ []))
 name_in c = let S = c.before.before.before.before in going_on (blank-in S) (name_of S.args.letters) (61 ∷ 34 ∷ (raw S ++ 34 ∷ [])) refl (wrote c.lay_name-a.ensures)
 
-sign-in : (c : tie.After-lay-b) → let S = c.before.before.before.before.before.before.before.before.before.before in Going S.args.out.now c.lay-b.new.0 S.args.at c.lay-b.result (whole S) (raw S ++ 34 ∷ [])
+sign-in : (c : tie.After-lay-b) → let S = c.before.before.before.before.before.before.before.before.before.before in Going S.args.out.now c.lay-b.new.out S.args.at c.lay-b.result (whole S) (raw S ++ 34 ∷ [])
 sign-in c = let S = c.before.before.before.before.before.before.before.before.before.before in going_on (name_in c.before.before.before.before.before.before) (bytes "=\"") (raw S ++ 34 ∷ []) refl (wrote c.lay-b.ensures)
 
-value_in : (c : tie.After-lay_value-c) → let S = c.before.before.before.before.before.before.before.before.before.before.before.before.before.before in Going S.args.out.now c.lay_value-c.new.0 S.args.at c.lay_value-c.result (whole S) (34 ∷ [])
+value_in : (c : tie.After-lay_value-c) → let S = c.before.before.before.before.before.before.before.before.before.before.before.before.before.before in Going S.args.out.now c.lay_value-c.new.out S.args.at c.lay_value-c.result (whole S) (34 ∷ [])
 value_in c = let S = c.before.before.before.before.before.before.before.before.before.before.before.before.before.before in going_on (sign-in c.before.before.before.before) (raw S) (34 ∷ []) refl c.lay_value-c.ensures
 
 -- all is written
-all_in : (c : tie.After-lay_value-c) → let S = c.before.before.before.before.before.before.before.before.before.before.before.before.before.before in Wrote S.args.out.now (set c.lay_value-c.new.0 c.lay_value-c.result 34) S.args.at (c.lay_value-c.result + 1) (whole S)
+all_in : (c : tie.After-lay_value-c) → let S = c.before.before.before.before.before.before.before.before.before.before.before.before.before.before in Wrote S.args.out.now (set c.lay_value-c.new.out c.lay_value-c.result 34) S.args.at (c.lay_value-c.result + 1) (whole S)
 all_in c = going_done (fit c.before.before.before.before.before.before.before.before.before.before.before.before.before.before) (byte_on (value_in c)) refl
 
 slice-write-out : tie.Need-bounds-out-at

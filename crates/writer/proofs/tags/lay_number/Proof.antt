@@ -24,15 +24,15 @@ fit : (c : tie.Else-n-eq0) → let S = c.before.before in Fits S.args.out.now S.
 fit c = fits_as (as-quoted c) (record { inside = c.before.before.requires })
 
 -- the digits and the quote are left
-name_in : (c : tie.After-lay-a) → let S = c.before.before.before.before.before.before in Going S.args.out.now c.lay-a.new.0 S.args.at c.lay-a.result (quoted (bytes "p") (decimal S.args.n)) (decimal S.args.n ++ 34 ∷ [])
+name_in : (c : tie.After-lay-a) → let S = c.before.before.before.before.before.before in Going S.args.out.now c.lay-a.new.out S.args.at c.lay-a.result (quoted (bytes "p") (decimal S.args.n)) (decimal S.args.n ++ 34 ∷ [])
 name_in c = let S = c.before.before.before.before.before.before in going_on (going_start (fit c.before.before.before.before)) (bytes " p=\"") (decimal S.args.n ++ 34 ∷ []) refl (wrote c.lay-a.ensures)
 
 -- the quote is left
-digits_in : (c : tie.After-spell-b) → let S = c.before.before.before.before.before.before.before.before.before.before in Going S.args.out.now c.spell-b.new.1.0 S.args.at c.spell-b.result (quoted (bytes "p") (decimal S.args.n)) (34 ∷ [])
+digits_in : (c : tie.After-spell-b) → let S = c.before.before.before.before.before.before.before.before.before.before in Going S.args.out.now c.spell-b.new.out S.args.at c.spell-b.result (quoted (bytes "p") (decimal S.args.n)) (34 ∷ [])
 digits_in c = let S = c.before.before.before.before.before.before.before.before.before.before in going_on (name_in c.before.before.before.before) (decimal S.args.n) (34 ∷ []) refl (wrote c.spell-b.ensures)
 
 -- all is written
-all_in : (c : tie.After-spell-b) → let S = c.before.before.before.before.before.before.before.before.before.before in Wrote S.args.out.now (set c.spell-b.new.1.0 c.spell-b.result 34) S.args.at (c.spell-b.result + 1) (quoted (bytes "p") (decimal S.args.n))
+all_in : (c : tie.After-spell-b) → let S = c.before.before.before.before.before.before.before.before.before.before in Wrote S.args.out.now (set c.spell-b.new.out c.spell-b.result 34) S.args.at (c.spell-b.result + 1) (quoted (bytes "p") (decimal S.args.n))
 all_in c = going_done (fit c.before.before.before.before.before.before.before.before) (byte_on (digits_in c)) refl
 
 returns : tie.Need-returns-then-n-eq0

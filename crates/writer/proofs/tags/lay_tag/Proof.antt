@@ -15,7 +15,7 @@ fit S = record { inside = S.requires.4 }
 
 -- the attributes and the end are left
 begun : (c : tie.After-lay-a) → let a = c.before.before.before.before.before.before.before.before.args in
-    Going a.out.now c.lay-a.new.0 a.at c.lay-a.result (tag_text a.begin.now a.first a.count a.text.now a.from a.numbers.now a.end.now) (fields_text a.first a.count a.text.now a.from a.numbers.now ++ a.end.now)
+    Going a.out.now c.lay-a.new.out a.at c.lay-a.result (tag_text a.begin.now a.first a.count a.text.now a.from a.numbers.now a.end.now) (fields_text a.first a.count a.text.now a.from a.numbers.now ++ a.end.now)
 unfolding tag_text
 begun c =
     let S = c.before.before.before.before.before.before.before.before in
@@ -24,7 +24,7 @@ begun c =
 
 -- the end is left
 filled : (c : tie.After-lay_fields-b) → let a = c.before.before.before.before.before.before.before.before.before.before.before.before.args in
-    Going a.out.now c.lay_fields-b.new.0 a.at c.lay_fields-b.result (tag_text a.begin.now a.first a.count a.text.now a.from a.numbers.now a.end.now) a.end.now
+    Going a.out.now c.lay_fields-b.new.out a.at c.lay_fields-b.result (tag_text a.begin.now a.first a.count a.text.now a.from a.numbers.now a.end.now) a.end.now
 filled c =
     let a = c.before.before.before.before.before.before.before.before.before.before.before.before.args in
     going_on (begun c.before.before.before.before) (fields_text a.first a.count a.text.now a.from a.numbers.now) a.end.now refl c.lay_fields-b.ensures

@@ -74,16 +74,16 @@ size_is c =
     let S = from-people (from-loop L) in
     let a = S.args in
     let r = between I in
-    c.sizes_between.ensures ∙ stretch_sizes a.text.now a.rows.now a.n L.loop.from (get_or a.t6 L.loop.k 0) r.0 r.1 a.t5 S.pre.7
+    c.sizes_between.ensures ∙ stretch_sizes a.text.now a.rows.now a.n L.loop-k.from (get_or a.t6 L.loop-k.k 0) r.0 r.1 a.t5 S.requires.7
 
-within-at : (c : tie.After-sizes_between invariant-loop decreases-loop) → let L = (from-sizes c).before in L.loop.begin + c.sizes_between.result ≤ length (from-people (from-loop L)).args.spelt.now
+within-at : (c : tie.After-sizes_between invariant-loop decreases-loop) → let L = (from-sizes c).before in L.loop-k.begin + c.sizes_between.result ≤ length (from-people (from-loop L)).args.spelt.now
 within-at c =
     let I = from-sizes c in
     let L = I.before in
     let S = from-people (from-loop L) in
     let a = S.args in
     let r = between I in
-    omega (arith, size_is c, L.loop.inv.begins, stretch_within a.text.now a.rows.now a.n L.loop.from (get_or a.t6 L.loop.k 0) r.0 r.1, all_there a.spelt.now _ S.pre.8)
+    omega (arith, size_is c, L.loop-k.inv.begins, stretch_within a.text.now a.rows.now a.n L.loop-k.from (get_or a.t6 L.loop-k.k 0) r.0 r.1, all_there a.spelt.now _ S.requires.8)
 
 part-is : (c : tie.After-sizes_between invariant-loop decreases-loop) (e : ℕ) → e ≡ (from-sizes c).before.loop.begin + c.sizes_between.result
     → take (e - (from-sizes c).before.loop.begin) (drop (from-sizes c).before.loop.begin (from-people (from-loop (from-sizes c).before)).args.spelt.now) ≡ rows_placed (these (from-sizes c))
@@ -93,28 +93,28 @@ part-is c e q =
     let S = from-people (from-loop L) in
     let a = S.args in
     let r = between I in
-    let long : e - L.loop.begin ≡ length (rows_placed (these I)) = omega (arith, q, size_is c) in
-    ap (λ (n : ℕ). take n (drop L.loop.begin a.spelt.now)) long
-    ∙ ap (λ (n : ℕ). take (length (rows_placed (these I))) (drop n a.spelt.now)) L.loop.inv.begins
-    ∙ stretch_bytes a.text.now a.rows.now a.n L.loop.from (get_or a.t6 L.loop.k 0) r.0 r.1 a.spelt.now S.pre.8
+    let long : e - L.loop-k.begin ≡ length (rows_placed (these I)) = omega (arith, q, size_is c) in
+    ap (λ (n : ℕ). take n (drop L.loop-k.begin a.spelt.now)) long
+    ∙ ap (λ (n : ℕ). take (length (rows_placed (these I))) (drop n a.spelt.now)) L.loop-k.inv.begins
+    ∙ stretch_bytes a.text.now a.rows.now a.n L.loop-k.from (get_or a.t6 L.loop-k.k 0) r.0 r.1 a.spelt.now S.requires.8
 
 told : (c : tie.After-begins_section-heading invariant-loop decreases-loop) → let I = from-sizes c.before in 1 ≤ length (these I) → c.begins_section-heading.result ≡ headed (these I)
 told c =
     let I = from-sizes c.before in
     let L = I.before in
     let a = (from-people (from-loop L)).args in
-    first-told a.text.now a.rows.now L.loop.from (get_or a.t6 L.loop.k 0) c.begins_section-heading.result c.begins_section-heading.ensures
+    first-told a.text.now a.rows.now L.loop-k.from (get_or a.t6 L.loop-k.k 0) c.begins_section-heading.result c.begins_section-heading.ensures
 
 -- the page as it is laid
 laid_as : (c : tie.After-begins_section-heading invariant-loop decreases-loop) (w : List ℕ) → w ≡ rows_placed (these (from-sizes c.before)) → let L = (from-sizes c.before).before in let a = (from-people (from-loop L)).args in let h = show_head a.text.now a.plan in
-    page h (these (from-sizes c.before)) (L.loop.k + 1) a.z ≡ head_text h (L.loop.k + 1) a.z ++ rows_page c.begins_section-heading.result w
+    page h (these (from-sizes c.before)) (L.loop-k.k + 1) a.z ≡ head_text h (L.loop-k.k + 1) a.z ++ rows_page c.begins_section-heading.result w
 laid_as c w e =
     let I = from-sizes c.before in
     let L = I.before in
     let a = (from-people (from-loop L)).args in
     let h = show_head a.text.now a.plan in
-    page_placed h (these I) (L.loop.k + 1) a.z c.begins_section-heading.result (told c)
-    ∙ ap (λ (x : List ℕ). head_text h (L.loop.k + 1) a.z ++ rows_page c.begins_section-heading.result x) (sym e)
+    page_placed h (these I) (L.loop-k.k + 1) a.z c.begins_section-heading.result (told c)
+    ∙ ap (λ (x : List ℕ). head_text h (L.loop-k.k + 1) a.z ++ rows_page c.begins_section-heading.result x) (sym e)
 
 keys-requires : tie.Need-keys-keys-requires invariant-loop decreases-loop
 keys-requires c κs = search rules
@@ -136,7 +136,7 @@ loop-holds c =
     let S = from-people c.before in
     let a = S.args in
     let l : length a.t6 ≡ 9 = search rules in
-    laid_start (show_head a.text.now a.plan) a.text.now a.rows.now a.t6 a.n a.z a.out.now S.pre.3 l S.pre.4 S.pre.5 S.pre.6
+    laid_start (show_head a.text.now a.plan) a.text.now a.rows.now a.t6 a.n a.z a.out.now S.requires.3 l S.requires.4 S.requires.5 S.requires.6
 
 mul-to : tie.Need-offset_bounds-ends-k invariant-loop decreases-loop
 mul-to c = search rules
@@ -152,7 +152,7 @@ sizes-between-requires c κs =
     let I = c.before in
     let S = from-people (from-loop I.before) in
     let r = between I in
-    (r.0, omega (arith, r.1, S.pre.2), omega (arith, r.1, S.pre.2))
+    (r.0, omega (arith, r.1, S.requires.2), omega (arith, r.1, S.requires.2))
 
 add-end : tie.Need-overflow_add-end invariant-loop decreases-loop
 add-end c = let w = within-at c in search rules
@@ -199,16 +199,16 @@ lay-page-requires c κs =
     let P = from-loop L in
     let K = P.before.before.before in
     let S = from-people P in
-    let i = I.loop-test.taken in
+    let i = I.loop-k-test.taken in
     let w = part-is Z _ refl in
-    let e : L.loop.k + 1 ≤ 9 = omega (arith, i, S.pre.3) in (
-      K.keys.ensures,
-      S.pre.0,
+    let e : L.loop-k.k + 1 ≤ 9 = omega (arith, i, S.requires.3) in (
+      K.keys-keys.ensures,
+      S.requires.0,
       e,
-      S.pre.3,
-      written_first P.lay-people.ensures,
+      S.requires.3,
+      written_first P.lay_people-p.ensures,
       subst (Opened T.begins_section-heading.result) (sym w) (page_opened (these I) T.begins_section-heading.result (told T)),
-      omega (arith, ap length (laid_as T _ w), next_fits _ _ _ _ _ _ L.loop.inv i),
+      omega (arith, ap length (laid_as T _ w), next_fits _ _ _ _ _ _ L.loop-k.inv i),
     )
 
 sub-lens : tie.Need-overflow_sub-lens invariant-loop decreases-loop
@@ -219,7 +219,7 @@ cast-lens c =
     let E = c.before.before in
     let T = E.before.before.before.before.before in
     let I = from-sizes T.before in
-    omega (arith, E.lay_page-e.ensures.behind, ap length (laid_as T _ (part-is T.before _ refl)), next_short _ _ _ _ _ _ I.before.loop.inv I.loop-test.taken)
+    omega (arith, E.lay_page-e.ensures.behind, ap length (laid_as T _ (part-is T.before _ refl)), next_short _ _ _ _ _ _ I.before.loop-k.inv I.loop-k-test.taken)
 
 mul-lens : tie.Need-offset_bounds-lens-k invariant-loop decreases-loop
 mul-lens c = search rules
@@ -239,7 +239,7 @@ loop-again c =
     let T = E.before.before.before.before.before in
     let I = from-sizes T.before in
     let L = I.before in
-    laid_next _ _ _ _ _ _ L.loop.inv I.loop-test.taken _ _ (wrote_as (laid_as T _ (part-is T.before _ refl)) E.lay_page-e.ensures) refl (ap (λ (x : ℕ). L.loop.begin + x) (size_is T.before))
+    laid_next _ _ _ _ _ _ L.loop-k.inv I.loop-k-test.taken _ _ (wrote_as (laid_as T _ (part-is T.before _ refl)) E.lay_page-e.ensures) refl (ap (λ (x : ℕ). L.loop-k.begin + x) (size_is T.before))
 
 same_length : tie.Need-shape_of-out invariant-loop decreases-loop
 same_length c = c.before.loop-k.invariant.going.laying.long

@@ -75,11 +75,11 @@ start₅ c = start₄ c.before.before.before.before
 
 -- the call is well made
 fits-at : (c : tie.Else-not-call_fits) → let s = start₁ c in call_fits (plan s).rows (rows_lent (length (rows s))) (length (out s)) ≡ true
-fits-at c = sym c.before.call_fits_lem.ensures ∙ not-false _ c.if-not-call_fits.false
+fits-at c = sym c.before.call_fits_lem.ensures ∙ c.if-not-call_fits.false
 
 -- the head is sound
 head_at : (c : tie.Else-not-head_sound) → let s = start₂ c in head_sound (text s) (plan s) ≡ true
-head_at c = sym c.before.head_sound.ensures ∙ not-false _ c.if-not-head_sound.false
+head_at c = sym c.before.head_sound.ensures ∙ c.if-not-head_sound.false
 
 -- no row is bad
 none-at : (c : tie.Else-bad-ne0) → let s = start₃ c in first_bad_in 1 (text s) (plan s).rows (rows s) ≡ 0
@@ -132,7 +132,7 @@ returns : tie.Need-returns-then-not-call_fits
 returns c =
     let T = c.before.before in
     let s = T.before.before.before.before.before in
-    refuse s 1 0 bad_call (no_call (out s) (plan s) (rows s) (text s) (sym T.call_fits_lem.ensures ∙ not-true _ c.before.if-not-call_fits.true)) (refl, refl) _ (ap numbers_of c.refusal.ensures.0) c.refusal.ensures.1.0 c.refusal.ensures.1.1
+    refuse s 1 0 bad_call (no_call (out s) (plan s) (rows s) (text s) (sym T.call_fits_lem.ensures ∙ c.before.if-not-call_fits.true)) (refl, refl) _ (ap numbers_of c.refusal.ensures.0) c.refusal.ensures.1.0 c.refusal.ensures.1.1
 
 head-sound-requires : tie.Need-head_sound-requires
 head-sound-requires c κs = search rules
@@ -144,7 +144,7 @@ returns-2 : tie.Need-returns-then-not-head_sound
 returns-2 c =
     let T = c.before.before in
     let s = start₁ T.before in
-    refuse s 13 0 (unsound 0) (bad_head (out s) (plan s) (rows s) (text s) (fits-at T.before) (sym T.head_sound.ensures ∙ not-true _ c.before.if-not-head_sound.true)) (refl, refl) _ (ap numbers_of c.refusal-then-not-head_sound.ensures.0) c.refusal-then-not-head_sound.ensures.1.0 c.refusal-then-not-head_sound.ensures.1.1
+    refuse s 13 0 (unsound 0) (bad_head (out s) (plan s) (rows s) (text s) (fits-at T.before) (sym T.head_sound.ensures ∙ c.before.if-not-head_sound.true)) (refl, refl) _ (ap numbers_of c.refusal-then-not-head_sound.ensures.0) c.refusal-then-not-head_sound.ensures.1.0 c.refusal-then-not-head_sound.ensures.1.1
 
 first-bad-requires : tie.Need-first_bad-bad-requires
 first-bad-requires c κs = let s = start₂ c in (well_made (out s) (plan s) (rows s) (fits-at c.before.before)).lent
