@@ -30,7 +30,7 @@ refused-at A e = ap values_of (sym e) ∙ A.cell_answer-a.ensures
 
 -- what the cell shows
 abbrev shown-at : tie.In-Shown → Told.Shown
-shown-at K = K.a.given.0.0
+shown-at K = K.in-Shown.s
 
 -- they are the answer's
 values-are : (K : tie.In-Shown) → values_of (Shown (shown-at K)) ≡ values-at K.before.before

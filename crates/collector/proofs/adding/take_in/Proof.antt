@@ -47,7 +47,7 @@ same_at : (c : tie.After-spells) → let P = c.before.before.before in let a = (
     (here a.c.lens (content_of (tags_at a.page.now 0)).no ≡ true) × (same a.page.now (kept a.c.pages a.c.lens (content_of (tags_at a.page.now 0)).no) ≡ c.spells.result)
 same_at c =
     let K = c.before.before in
-    let P = K.before.before.before in
+    let P = K.before in
     let a = (start_of (passed P).before).args in
     rw (← number_at P) ((place_at K).is_here, same_kept a.c.pages a.c.lens a.page.now _ _ _ _ (long-at (start_of (passed P).before)) (place_at K) c.spells.ensures)
 

@@ -28,7 +28,7 @@ value_in c = c.numeral-b.ensures
 -- the line is written
 line-in : (c : tie.After-numeral-b) → let S = c.before.before.before.before.before.before.before.before in
     Wrote S.args.out.now (set c.numeral-b.new.out c.numeral-b.result 10) S.args.at (c.numeral-b.result + 1) (print (line S.args.key.now (numeral S.args.n) ∷ []))
-line-in c = let L = c.before.before.before.before in let S = L.before.before.before.before.before.before.before.before in line_written (numeral S.args.n) (fit S) (key_in L) (value_in c)
+line-in c = let L = c.before.before.before.before in let S = L.before.before.before.before in line_written (numeral S.args.n) (fit S) (key_in L) (value_in c)
 
 lay-requires : tie.Need-lay-a-requires
 lay-requires c κs = let S = c.before.before.before in (first_fits S.args.key.now (61 ∷ (numeral S.args.n ++ 10 ∷ [])) (fit S)).inside

@@ -46,7 +46,7 @@ line-in : (c : tie.After-lay-end) → let S = c.before.before.before.before.befo
     Wrote S.args.out.now (set c.lay-end.new.out c.lay-end.result 10) S.args.at (c.lay-end.result + 1) (print (line (S.args.path.now ++ name_of S.args.letters) S.args.value.now ∷ []))
 line-in c =
     let N = c.before.before.before.before in
-    let S = N.before.before.before.before.before.before.before.before.before.before.before.before.before in
+    let S = N.before.before.before.before.before.before.before.before.before in
     line_written S.args.value.now (fit S) (key_in N) (value_in c)
 
 lay-requires : tie.Need-lay-name-requires

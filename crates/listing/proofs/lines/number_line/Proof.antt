@@ -40,7 +40,7 @@ end-in c = let L = c.before.before.before.before in let E = L.before.before in e
 -- the line is written
 line-in : (c : tie.After-spell-b) → let E = c.before.before.before.before.before.before in let S = E.before.before.before in
     Wrote S.args.out.now (set c.spell-b.new.out c.spell-b.result 10) S.args.at (c.spell-b.result + 1) (print (line S.args.key.now (decimal S.args.n) ∷ []))
-line-in c = let L = c.before.before.before.before in let E = L.before.before.before.before.before.before in line_written (decimal E.before.before.before.args.n) (fit E) (key_in L) (value_in c)
+line-in c = let L = c.before.before.before.before in let E = L.before.before in line_written (decimal E.before.before.before.args.n) (fit E) (key_in L) (value_in c)
 
 returns : tie.Need-returns-then-n-eq0
 returns c = let S = c.before.before.before in rw c.if-n-eq0.true (none_written S.args.out.now S.args.at)

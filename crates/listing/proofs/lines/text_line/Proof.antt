@@ -28,7 +28,7 @@ value_in c = wrote c.lay-b.ensures
 -- the line is written
 line-in : (c : tie.After-lay-b) → let S = c.before.before.before.before.before.before.before.before.before in
     Wrote S.args.out.now (set c.lay-b.new.out c.lay-b.result 10) S.args.at (c.lay-b.result + 1) (print (line S.args.key.now S.args.value.now ∷ []))
-line-in c = let L = c.before.before.before.before in let S = L.before.before.before.before.before.before.before.before.before in line_written S.args.value.now (fit S) (key_in L) (value_in c)
+line-in c = let L = c.before.before.before.before in let S = L.before.before.before.before.before in line_written S.args.value.now (fit S) (key_in L) (value_in c)
 
 lay-requires : tie.Need-lay-a-requires
 lay-requires c κs = let S = c.before.before.before.before in (first_fits S.args.key.now (61 ∷ (S.args.value.now ++ 10 ∷ [])) (fit S)).inside

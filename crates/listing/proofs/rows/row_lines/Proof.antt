@@ -25,7 +25,7 @@ row-1 : (c : tie.In-Heading) → let S = c.before.before.before.before.before in
     row_lines (show_row S.args.text.now (record_at S.args.rows.now S.args.i)) ≡ plain_row (row_mark Paper.S) (path Paper.S) 31 2 S.args.text.now S.args.rows.now S.args.i
 row-1 c =
     let K = c.before in
-    let S = K.before.before.before.before.before in
+    let S = K.before.before.before.before in
     plain_is S.args.text.now S.args.rows.now S.args.i Paper.S 31 (kind_is (get_or (record_at S.args.rows.now S.args.i) 0 0) ∙ ap paper_kind (sym K.kind_at-kind.ensures ∙ c.in-Heading.is)) refl (omega arith) row_fields.0
 
 -- the lines of such a row
@@ -33,7 +33,7 @@ row-2 : (c : tie.In-Medication) → let S = c.before.before.before.before.before
     row_lines (show_row S.args.text.now (record_at S.args.rows.now S.args.i)) ≡ medication_row S.args.text.now S.args.rows.now S.args.i
 row-2 c =
     let K = c.before in
-    let S = K.before.before.before.before.before in
+    let S = K.before.before.before.before in
     medication_is S.args.text.now S.args.rows.now S.args.i (kind_is (get_or (record_at S.args.rows.now S.args.i) 0 0) ∙ ap paper_kind (sym K.kind_at-kind.ensures ∙ c.in-Medication.is))
 
 -- the lines of such a row
@@ -41,7 +41,7 @@ row-3 : (c : tie.In-Recipe) → let S = c.before.before.before.before.before in
     row_lines (show_row S.args.text.now (record_at S.args.rows.now S.args.i)) ≡ plain_row (row_mark Paper.R) (path Paper.R) 49 2 S.args.text.now S.args.rows.now S.args.i
 row-3 c =
     let K = c.before in
-    let S = K.before.before.before.before.before in
+    let S = K.before.before.before.before in
     plain_is S.args.text.now S.args.rows.now S.args.i Paper.R 49 (kind_is (get_or (record_at S.args.rows.now S.args.i) 0 0) ∙ ap paper_kind (sym K.kind_at-kind.ensures ∙ c.in-Recipe.is)) refl (omega arith) row_fields.1
 
 -- the lines of such a row
@@ -49,7 +49,7 @@ row-4 : (c : tie.In-Note) → let S = c.before.before.before.before.before in
     row_lines (show_row S.args.text.now (record_at S.args.rows.now S.args.i)) ≡ plain_row (row_mark Paper.X) (path Paper.X) 51 1 S.args.text.now S.args.rows.now S.args.i
 row-4 c =
     let K = c.before in
-    let S = K.before.before.before.before.before in
+    let S = K.before.before.before.before in
     plain_is S.args.text.now S.args.rows.now S.args.i Paper.X 51 (kind_is (get_or (record_at S.args.rows.now S.args.i) 0 0) ∙ ap paper_kind (sym K.kind_at-kind.ensures ∙ c.in-Note.is)) refl (omega arith) row_fields.2
 
 -- the lines of such a row
@@ -57,7 +57,7 @@ row-5 : (c : tie.In-Unknown) → let S = c.before.before.before.before.before in
     row_lines (show_row S.args.text.now (record_at S.args.rows.now S.args.i)) ≡ plain_row (row_mark Paper.unknown) (path Paper.unknown) 0 0 S.args.text.now S.args.rows.now S.args.i
 row-5 c =
     let K = c.before in
-    let S = K.before.before.before.before.before in
+    let S = K.before.before.before.before in
     plain_is S.args.text.now S.args.rows.now S.args.i Paper.unknown 0 (kind_is (get_or (record_at S.args.rows.now S.args.i) 0 0) ∙ ap paper_kind (sym K.kind_at-kind.ensures ∙ c.in-Unknown.is)) refl (omega arith) row_fields.4
 
 kind-at-requires : tie.Need-kind_at-kind-requires

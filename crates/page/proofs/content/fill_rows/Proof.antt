@@ -39,7 +39,7 @@ next c = step _ _ _ _ _ _ c.before.loop-f.invariant.lies c.loop-f-test.true
 
 -- the rows that are laid, where those are left
 abbrev Left : tie.At-loop-f invariant-loop decreases-loop → List Row → Type 0
-Left c rest = let a = c.before.before.before.before.before.before.args in let l = c.loop in Filling (rows_from (tags_at a.page.now 0)) rest a.text.now l.text a.n l.m a.rows.now l.rows a.r l.k
+Left c rest = let a = c.before.before.before.before.before.before.args in let l = c.loop-f in Filling (rows_from (tags_at a.page.now 0)) rest a.text.now l.text a.n l.m a.rows.now l.rows a.r l.k
 
 -- a medication stands next
 med : (c : tie.Then-kind-eq-M invariant-loop decreases-loop) → Medication c.before.before.before.before.before.before.before.before.before.before.args.page.now c.before.before.before.before.before.before.before.before.before.before.args.side.now c.before.before.before.before.before.before.before.before.before.before.args.tape.now c.before.before.before.before.loop-f.f c.before.before.before.before.before.before.before.before.before.before.args.j c.before.before.before.before.loop-f.invariant.rest (next c.before.before.before).rest

@@ -156,8 +156,8 @@ same_length c = search rules
 returns : tie.Need-returns-in-Nothing invariant-loop decreases-loop
 returns c =
     let T = c.before.before in
-    let N = T in
-    let L = N.before.before in
+    let N = T.before.before in
+    let L = N.before in
     c.told.ensures
     ∙ ap verdict_by (c.before.finish.ensures ∙ sym (L.loop-i.invariant.right ∙ on_nothing (st_of L.loop-i.st) _ [] (shape N Nothing T.enum_told.given.1)))
 
@@ -184,7 +184,7 @@ loop-again c =
       table = L.loop.inv.table;
       bounds = L.loop.inv.bounds;
       sound = c.close.ensures.1;
-      right = L.loop.inv.right ∙ on_end (st_of L.loop.st) _ _ (shape (ended_by M) (End (end-at M)) M.in-Start.is)
+      right = L.loop.inv.right ∙ on_end (st_of L.loop.st) _ _ (shape (ended_by M) (End (end-at M)) M.mark.given.1)
           ∙ ap (λ (s : St). judge_fold s (tags_at (page_at L) (end-at M + 1))) (sym c.close.ensures.0);
     }
 

@@ -17,7 +17,7 @@ abbrev whole : tie.After-last_w-n → Bool
 whole N = let a = N.before.before.before.args in fine_medication a.text.now a.numbers.now
 
 abbrev from-clashes : tie.After-last_w-n → Bool
-from-clashes N = let a = N.before.before.before.args in not (clash_at (kind_at 6) a.numbers.now 0) && fine_ws a.text.now N.last-w.result 13 a.numbers.now
+from-clashes N = let a = N.before.before.before.args in not (clash_at (kind_at 6) a.numbers.now 0) && fine_ws a.text.now N.last_w-n.result 13 a.numbers.now
 
 abbrev from_fields : tie.After-last_w-n → Bool
 from_fields N = let a = N.before.before.before.args in fine_from a.text.now 34 13 0 a.numbers.now && from-clashes N

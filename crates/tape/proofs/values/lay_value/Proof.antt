@@ -30,7 +30,7 @@ decoded c = front _ _ _ _ c.decode-k.ensures.0 c.decode-k.ensures.2
 counts : (c : tie.Else-is_zero) → let D = c.before.before.before.before.before in take D.decode-k.result D.decode-k.new.out ≡ settled (entry D).args.id (raw D)
 counts c =
     let R = c.before.before.before in
-    let D = R.before.before.before.before.before in
+    let D = R.before.before in
     decoded D ∙ sym (whole_value (entry D).args.id R.rule_of-rule.result (raw D) _ R.rule_of-rule.ensures (decoded D) (sym c.before.is_zero.ensures ∙ c.if-is_zero.false))
 
 slice-aggregate-decode : tie.Need-slice_bounds-decode-end

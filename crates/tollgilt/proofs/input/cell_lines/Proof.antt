@@ -18,7 +18,7 @@ abbrev start : tie.After-flag_number-zero → tie.Start
 start F = F.before.before.before.before
 
 abbrev at_five : tie.After-flag_number-zero → List Line
-at_five F = let s = (start F).args.shown in five_lines s.source F.before.flag-number.result s.omitted F.flag-number2.result (take s.length (start F).args.room.now)
+at_five F = let s = (start F).args.shown in five_lines s.source F.before.flag_number-more.result s.omitted F.flag_number-zero.result (take s.length (start F).args.room.now)
 
 -- they are those that are to be written, and fit
 five-are : (F : tie.After-flag_number-zero) → let s = (start F).args.shown in shown_lines s.source s.more s.omitted s.zero (take s.length (start F).args.room.now) ≡ print (at_five F)
@@ -32,13 +32,13 @@ abbrev at_source : tie.After-flag_number-zero → Line
 at_source F = line (bytes "source") (numeral (start F).args.shown.source)
 
 abbrev cut_at : tie.After-flag_number-zero → Line
-cut_at F = line (bytes "cut") (numeral F.before.flag-number.result)
+cut_at F = line (bytes "cut") (numeral F.before.flag_number-more.result)
 
 abbrev left_at : tie.After-flag_number-zero → Line
 left_at F = line (bytes "left") (numeral (start F).args.shown.omitted)
 
 abbrev at_zero : tie.After-flag_number-zero → Line
-at_zero F = line (bytes "zero") (numeral F.flag-number2.result)
+at_zero F = line (bytes "zero") (numeral F.flag_number-zero.result)
 
 -- where the flags were told, by the line that was last written
 abbrev first : tie.After-count_line-a → tie.After-flag_number-zero

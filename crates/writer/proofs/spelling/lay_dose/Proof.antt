@@ -26,7 +26,7 @@ use Rattle.writer.proofs.spelling.lay_dose.Tie as tie
 
 -- the times of the dose
 abbrev times : tie.In-Scheme → Times
-times D = D.dose.given.0.0
+times D = D.in-Scheme.x
 
 -- a span's attribute under a name
 abbrev part : tie.Start → List ℕ → Span → List ℕ

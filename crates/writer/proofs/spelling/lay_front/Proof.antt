@@ -31,7 +31,7 @@ long H = spans_counted (map paper_span (from-numbers H).args.plan.head) H.head_n
 
 -- the two parts
 abbrev start : tie.After-head_numbers-numbers → List ℕ
-start H = let a = (from-numbers H).args in start_text a.plan.patch a.a a.z a.text.now H.head-numbers.result
+start H = let a = (from-numbers H).args in start_text a.plan.patch a.a a.z a.text.now H.head_numbers-numbers.result
 
 abbrev people : tie.After-head_numbers-numbers → List ℕ
 people H = (from-numbers H).args.people.now

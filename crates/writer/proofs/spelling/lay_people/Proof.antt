@@ -37,13 +37,13 @@ long H = spans_counted (map paper_span (from-numbers H).args.plan.head) H.head_n
 
 -- the parts
 abbrev person : tie.After-head_numbers-numbers → List ℕ
-person H = tag_text (bytes "<P") 6 8 (from-numbers H).args.text.now 6 H.head-numbers.result (bytes "/>")
+person H = tag_text (bytes "<P") 6 8 (from-numbers H).args.text.now 6 H.head_numbers-numbers.result (bytes "/>")
 
 abbrev author : tie.After-head_numbers-numbers → List ℕ
-author H = tag_text (bytes "<A") 14 10 (from-numbers H).args.text.now 22 H.head-numbers.result (bytes "/>")
+author H = tag_text (bytes "<A") 14 10 (from-numbers H).args.text.now 22 H.head_numbers-numbers.result (bytes "/>")
 
 abbrev measures : tie.After-head_numbers-numbers → List ℕ
-measures H = measures_part (from-numbers H).args.text.now 42 H.head-numbers.result
+measures H = measures_part (from-numbers H).args.text.now 42 H.head_numbers-numbers.result
 
 abbrev whole : tie.After-head_numbers-numbers → List ℕ
 whole H = person H ++ (author H ++ measures H)

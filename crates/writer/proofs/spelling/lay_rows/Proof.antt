@@ -82,7 +82,7 @@ open_in : (c : tie.After-lay-b) → let I = c.before.before.before in let a = (f
 open_in c = let I = c.before.before.before in going_on (going_start (other_fits I.before)) (bytes "<S>") ((from-else-2 I.before).args.placed.now ++ bytes "</S></MP>") refl (wrote c.lay-b.ensures)
 
 rows_in : (c : tie.After-lay-c) → let I = c.before.before.before.before.before.before.before in let a = (from-else-2 I.before).args in Going a.out.now c.lay-c.new.out a.at c.lay-c.result (all I) (bytes "</S></MP>")
-rows_in c = let O = c.before.before.before.before in let I = O.before.before.before.before.before.before.before in going_on (open_in O) (from-else-2 I.before).args.placed.now (bytes "</S></MP>") refl (wrote c.lay-c.ensures)
+rows_in c = let O = c.before.before.before.before in let I = O.before.before.before in going_on (open_in O) (from-else-2 I.before).args.placed.now (bytes "</S></MP>") refl (wrote c.lay-c.ensures)
 
 lay-requires : tie.Need-lay-requires
 lay-requires c κs = let I = c.before.before in omega (arith, ap length (no_rows I.before), (from-then-1 I.before).requires.1)

@@ -34,13 +34,13 @@ fit S = fits S.requires.5
 
 -- what is left behind each of them
 begun : (c : tie.After-lay-begun) → let S = c.before.before.before.before.before.before.before.before in Going S.args.out.now c.lay-begun.new.out S.args.at c.lay-begun.result (whole S) (number S ++ (named S ++ final S))
-begun c = let S = c.before.before.before.before.before.before.before.before in going_on (going_start (fit S)) begin (number S ++ (named S ++ final S)) refl (wrote c.lay-begun.ensures)
+begun c = let S = c.before.before.before.before.before.before.before in going_on (going_start (fit S.before)) begin (number S ++ (named S ++ final S)) refl (wrote c.lay-begun.ensures)
 
 number_in : (c : tie.After-lay_number-patched) → let S = c.before.before.before.before.before.before.before.before.before.before.before.before in Going S.args.out.now c.lay_number-patched.new.out S.args.at c.lay_number-patched.result (whole S) (named S ++ final S)
-number_in c = let S = c.before.before.before.before.before.before.before.before.before.before.before.before in going_on (begun c.before.before.before.before) (number S) (named S ++ final S) refl c.lay_number-patched.ensures
+number_in c = let S = c.before.before.before.before.before.before.before.before.before.before.before in going_on (begun c.before.before.before.before) (number S) (named S ++ final S) refl c.lay_number-patched.ensures
 
 named_in : (c : tie.After-lay_fields-named) → let S = c.before.before.before.before.before.before.before.before.before.before.before.before.before.before.before.before in Going S.args.out.now c.lay_fields-named.new.out S.args.at c.lay_fields-named.result (whole S) (final S)
-named_in c = let S = c.before.before.before.before.before.before.before.before.before.before.before.before.before.before.before.before in going_on (number_in c.before.before.before.before) (named S) (final S) refl c.lay_fields-named.ensures
+named_in c = let S = c.before.before.before.before.before.before.before.before.before.before.before.before.before.before.before in going_on (number_in c.before.before.before.before) (named S) (final S) refl c.lay_fields-named.ensures
 
 slice-aggregate-lay : tie.Need-slice_bounds-lay-end-2
 slice-aggregate-lay c = search rules

@@ -41,10 +41,10 @@ name_in : (c : tie.After-lay_name-a) → let S = c.before.before.before.before i
 name_in c = let S = c.before.before.before.before in going_on (blank-in S) (name_of S.args.letters) (61 ∷ 34 ∷ (raw S ++ 34 ∷ [])) refl (wrote c.lay_name-a.ensures)
 
 sign-in : (c : tie.After-lay-b) → let S = c.before.before.before.before.before.before.before.before.before.before in Going S.args.out.now c.lay-b.new.out S.args.at c.lay-b.result (whole S) (raw S ++ 34 ∷ [])
-sign-in c = let S = c.before.before.before.before.before.before.before.before.before.before in going_on (name_in c.before.before.before.before.before.before) (bytes "=\"") (raw S ++ 34 ∷ []) refl (wrote c.lay-b.ensures)
+sign-in c = let S = c.before.before.before.before.before.before.before.before.before in going_on (name_in c.before.before.before.before.before.before) (bytes "=\"") (raw S ++ 34 ∷ []) refl (wrote c.lay-b.ensures)
 
 value_in : (c : tie.After-lay_value-c) → let S = c.before.before.before.before.before.before.before.before.before.before.before.before.before.before in Going S.args.out.now c.lay_value-c.new.out S.args.at c.lay_value-c.result (whole S) (34 ∷ [])
-value_in c = let S = c.before.before.before.before.before.before.before.before.before.before.before.before.before.before in going_on (sign-in c.before.before.before.before) (raw S) (34 ∷ []) refl c.lay_value-c.ensures
+value_in c = let S = c.before.before.before.before.before.before.before.before.before.before.before.before.before in going_on (sign-in c.before.before.before.before) (raw S) (34 ∷ []) refl c.lay_value-c.ensures
 
 -- all is written
 all_in : (c : tie.After-lay_value-c) → let S = c.before.before.before.before.before.before.before.before.before.before.before.before.before.before in Wrote S.args.out.now (set c.lay_value-c.new.out c.lay_value-c.result 34) S.args.at (c.lay_value-c.result + 1) (whole S)

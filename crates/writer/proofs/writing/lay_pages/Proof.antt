@@ -61,7 +61,7 @@ people-within P =
 
 -- the rows of the next page
 abbrev these : tie.In-loop-k invariant-loop decreases-loop → List Row
-these I = let L = I.before in let a = (from-people (from-loop L)).args in rows_between a.text.now a.rows.now L.loop.from (get_or a.t6 L.loop.k 0)
+these I = let L = I.before in let a = (from-people (from-loop L)).args in rows_between a.text.now a.rows.now L.loop-k.from (get_or a.t6 L.loop-k.k 0)
 
 between : (I : tie.In-loop-k invariant-loop decreases-loop) → let L = I.before in let a = (from-people (from-loop L)).args in (L.loop-k.from ≤ get_or a.t6 L.loop-k.k 0) × (get_or a.t6 L.loop-k.k 0 ≤ a.n)
 between I = next_rows _ _ _ _ _ _ I.before.loop-k.invariant I.loop-k-test.true
@@ -76,7 +76,7 @@ size_is c =
     let r = between I in
     c.sizes_between.ensures ∙ stretch_sizes a.text.now a.rows.now a.n L.loop-k.from (get_or a.t6 L.loop-k.k 0) r.0 r.1 a.t5 S.requires.7
 
-within-at : (c : tie.After-sizes_between invariant-loop decreases-loop) → let L = (from-sizes c).before in L.loop-k.begin + c.sizes_between.result ≤ length (from-people (from-loop L)).args.spelt.now
+within-at : (c : tie.After-sizes_between invariant-loop decreases-loop) → let L = (from-sizes c).before in L.loop.begin + c.sizes_between.result ≤ length (from-people (from-loop L)).args.spelt.now
 within-at c =
     let I = from-sizes c in
     let L = I.before in
@@ -107,7 +107,7 @@ told c =
 
 -- the page as it is laid
 laid_as : (c : tie.After-begins_section-heading invariant-loop decreases-loop) (w : List ℕ) → w ≡ rows_placed (these (from-sizes c.before)) → let L = (from-sizes c.before).before in let a = (from-people (from-loop L)).args in let h = show_head a.text.now a.plan in
-    page h (these (from-sizes c.before)) (L.loop-k.k + 1) a.z ≡ head_text h (L.loop-k.k + 1) a.z ++ rows_page c.begins_section-heading.result w
+    page h (these (from-sizes c.before)) (L.loop.k + 1) a.z ≡ head_text h (L.loop.k + 1) a.z ++ rows_page c.begins_section-heading.result w
 laid_as c w e =
     let I = from-sizes c.before in
     let L = I.before in
