@@ -33,7 +33,7 @@ abbrev shown-at : tie.In-Shown → Told.Shown
 shown-at K = K.in-Shown.s
 
 -- they are the answer's
-values-are : (K : tie.In-Shown) → values_of (Shown (shown-at K)) ≡ values-at K.before.before
+values-are : (K : tie.In-Shown) → values_of (Shown (shown-at K)) ≡ values-at K.before
 values-are K = ap values_of (sym K.in-Shown.is) ∙ K.before.cell_answer-a.ensures
 
 -- the part lies in the slice of its source, and is the text

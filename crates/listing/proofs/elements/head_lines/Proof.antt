@@ -99,10 +99,10 @@ head_lines_spec =
     slice-aggregate-mp-lines
     mp-lines-requires
     slice-aggregate-fields
-    slice-aggregate-fields-2
     fields-requires
-    slice-aggregate-fields-3
+    slice-aggregate-fields-2
     fields-requires-2
+    slice-aggregate-fields-3
     fields-requires-3
     same_length
     returns)

@@ -24,33 +24,33 @@ abbrev head : tie.Start → Head
 head S = head_from (tags_at S.args.page.now 0)
 
 -- its values
-lang-eq : (c : tie.After-language-l) → c.language-l.result.now ∷ [] ≡ (head c.before.before.before.before.before.before.before).lang ∷ []
+lang-eq : (c : tie.After-language-l) → c.language-l.result.now ∷ [] ≡ (head c.before.before.before.before.before.before.before.before).lang ∷ []
 lang-eq c = ap (λ (v : List ℕ). v ∷ []) c.language-l.ensures ∙ sym (lang_is (tags_at c.before.before.before.before.before.before.before.before.args.page.now 0))
 
-person-eq : (c : tie.After-count_of) → values_at c.before.before.before.before.before.before.before.before.before.before.before.before.before.before.before.before.before.before.before.before.before.before.args.page.now c.before.before.before.before.before.before.before.before.before.before.before.before.before.before.before.before.before.before.before.before.before.before.args.side.now c.count_of.result c.before.before.before.before.before.before.before.before.before.before.before.before.before.before.before.before.before.before.before.before.before.before.args.tape.now c.before.before.before.before.before.before.before.before.before.before.before.before.before.before.before.before.before.before.before.before.before.before.args.h.person ≡ (head c.before.before.before.before.before.before.before.before.before.before.before.before.before.before.before.before.before.before.before.before.before).person
+person-eq : (c : tie.After-count_of) → values_at c.before.before.before.before.before.before.before.before.before.before.before.before.before.before.before.before.before.before.before.before.before.before.args.page.now c.before.before.before.before.before.before.before.before.before.before.before.before.before.before.before.before.before.before.before.before.before.before.args.side.now c.count_of.result c.before.before.before.before.before.before.before.before.before.before.before.before.before.before.before.before.before.before.before.before.before.before.args.tape.now c.before.before.before.before.before.before.before.before.before.before.before.before.before.before.before.before.before.before.before.before.before.before.args.h.person ≡ (head c.before.before.before.before.before.before.before.before.before.before.before.before.before.before.before.before.before.before.before.before.before.before).person
 unfolding head_from kind_at
 person-eq c = part_values c.before.before.before.before.before.before.before.before.before.before.before.before.before.before.before.before.before.before.before.before.before.before.requires.0.person_at c.count_of.result c.count_of.ensures.0
 
-author-eq : (c : tie.After-count_of-2) → values_at c.before.before.before.before.before.before.before.before.before.before.before.before.before.before.before.before.before.before.before.before.before.before.before.before.before.before.before.before.before.args.page.now c.before.before.before.before.before.before.before.before.before.before.before.before.before.before.before.before.before.before.before.before.before.before.before.before.before.before.before.before.before.args.side.now c.count_of-2.result c.before.before.before.before.before.before.before.before.before.before.before.before.before.before.before.before.before.before.before.before.before.before.before.before.before.before.before.before.before.args.tape.now c.before.before.before.before.before.before.before.before.before.before.before.before.before.before.before.before.before.before.before.before.before.before.before.before.before.before.before.before.before.args.h.author ≡ (head c.before.before.before.before.before.before.before.before.before.before.before.before.before.before.before.before.before.before.before.before.before.before.before.before.before.before.before.before).author
+author-eq : (c : tie.After-count_of-2) → values_at c.before.before.before.before.before.before.before.before.before.before.before.before.before.before.before.before.before.before.before.before.before.before.before.before.before.before.before.before.before.args.page.now c.before.before.before.before.before.before.before.before.before.before.before.before.before.before.before.before.before.before.before.before.before.before.before.before.before.before.before.before.before.args.side.now c.count_of-2.result c.before.before.before.before.before.before.before.before.before.before.before.before.before.before.before.before.before.before.before.before.before.before.before.before.before.before.before.before.before.args.tape.now c.before.before.before.before.before.before.before.before.before.before.before.before.before.before.before.before.before.before.before.before.before.before.before.before.before.before.before.before.before.args.h.author ≡ (head c.before.before.before.before.before.before.before.before.before.before.before.before.before.before.before.before.before.before.before.before.before.before.before.before.before.before.before.before.before).author
 unfolding head_from kind_at
 author-eq c = part_values c.before.before.before.before.before.before.before.before.before.before.before.before.before.before.before.before.before.before.before.before.before.before.before.before.before.before.before.before.before.requires.0.author_at c.count_of-2.result c.count_of-2.ensures.0
 
-measures-eq : (c : tie.After-count_of-3) → values_at c.before.before.before.before.before.before.before.before.before.before.before.before.before.before.before.before.before.before.before.before.before.before.before.before.before.before.before.before.before.before.before.before.before.before.before.before.args.page.now c.before.before.before.before.before.before.before.before.before.before.before.before.before.before.before.before.before.before.before.before.before.before.before.before.before.before.before.before.before.before.before.before.before.before.before.before.args.side.now c.count_of-3.result c.before.before.before.before.before.before.before.before.before.before.before.before.before.before.before.before.before.before.before.before.before.before.before.before.before.before.before.before.before.before.before.before.before.before.before.before.args.tape.now c.before.before.before.before.before.before.before.before.before.before.before.before.before.before.before.before.before.before.before.before.before.before.before.before.before.before.before.before.before.before.before.before.before.before.before.before.args.h.measures ≡ (head c.before.before.before.before.before.before.before.before.before.before.before.before.before.before.before.before.before.before.before.before.before.before.before.before.before.before.before.before.before.before.before.before.before.before.before).measures
+measures-eq : (c : tie.After-count_of-3) → values_at c.before.before.before.before.before.before.before.before.before.before.before.before.before.before.before.before.before.before.before.before.before.before.before.before.before.before.before.before.before.before.before.before.before.before.before.before.args.page.now c.before.before.before.before.before.before.before.before.before.before.before.before.before.before.before.before.before.before.before.before.before.before.before.before.before.before.before.before.before.before.before.before.before.before.before.before.args.side.now c.count_of-3.result c.before.before.before.before.before.before.before.before.before.before.before.before.before.before.before.before.before.before.before.before.before.before.before.before.before.before.before.before.before.before.before.before.before.before.before.before.args.tape.now c.before.before.before.before.before.before.before.before.before.before.before.before.before.before.before.before.before.before.before.before.before.before.before.before.before.before.before.before.before.before.before.before.before.before.before.before.args.h.measures ≡ (head c.before.before.before.before.before.before.before.before.before.before.before.before.before.before.before.before.before.before.before.before.before.before.before.before.before.before.before.before.before.before.before.before.before.before.before.before).measures
 unfolding head_from kind_at
 measures-eq c = part_values c.before.before.before.before.before.before.before.before.before.before.before.before.before.before.before.before.before.before.before.before.before.before.before.before.before.before.before.before.before.before.before.before.before.before.before.before.requires.0.measures_at c.count_of-3.result c.count_of-3.ensures.0
 
 -- the rooms behind U, l, P and A
-room₀ : (c : tie.After-lay_slots-u) → Room ((head c.before.before.before.before.before.before.before.before.before.before.before).lang ∷ ((head c.before.before.before.before.before.before.before.before.before.before.before).person ++ ((head c.before.before.before.before.before.before.before.before.before.before.before).author ++ (head c.before.before.before.before.before.before.before.before.before.before.before).measures))) c.lay_slots-u.new.text c.lay_slots-u.result
-room₀ c = room_behind ((head c.before.before.before.before.before.before.before.before.before.before.before).ident ∷ []) _ c.before.before.before.before.before.before.before.before.before.before.before.before.requires.2 (relay (ident_values c.before.before.before.before.before.before.before.before.before.before.before.before.requires.0.mp_at) c.lay_slots-u.ensures)
+room₀ : (c : tie.After-lay_slots-u) → Room ((head c.before.before.before.before.before.before.before.before.before.before.before.before).lang ∷ ((head c.before.before.before.before.before.before.before.before.before.before.before.before).person ++ ((head c.before.before.before.before.before.before.before.before.before.before.before.before).author ++ (head c.before.before.before.before.before.before.before.before.before.before.before.before).measures))) c.lay_slots-u.new.text c.lay_slots-u.result
+room₀ c = room_behind ((head c.before.before.before.before.before.before.before.before.before.before.before.before).ident ∷ []) _ c.before.before.before.before.before.before.before.before.before.before.before.before.requires.2 (relay (ident_values c.before.before.before.before.before.before.before.before.before.before.before.before.requires.0.mp_at) c.lay_slots-u.ensures)
 
-room₁ : (c : tie.After-lay_one-m) → Room ((head c.before.before.before.before.before.before.before.before.before.before.before.before.before.before.before.before.before).person ++ ((head c.before.before.before.before.before.before.before.before.before.before.before.before.before.before.before.before.before).author ++ (head c.before.before.before.before.before.before.before.before.before.before.before.before.before.before.before.before.before).measures)) c.lay_one-m.new.text c.lay_one-m.result
-room₁ c = room_behind ((head c.before.before.before.before.before.before.before.before.before.before.before.before.before.before.before.before.before).lang ∷ []) _ (room₀ c.before.before.before.before.before.before) (relay (lang-eq c.before.before.before.before.before.before.before.before.before.before) c.lay_one-m.ensures)
+room₁ : (c : tie.After-lay_one-m) → Room ((head c.before.before.before.before.before.before.before.before.before.before.before.before.before.before.before.before.before.before).person ++ ((head c.before.before.before.before.before.before.before.before.before.before.before.before.before.before.before.before.before.before).author ++ (head c.before.before.before.before.before.before.before.before.before.before.before.before.before.before.before.before.before.before).measures)) c.lay_one-m.new.text c.lay_one-m.result
+room₁ c = room_behind ((head c.before.before.before.before.before.before.before.before.before.before.before.before.before.before.before.before.before.before).lang ∷ []) _ (room₀ c.before.before.before.before.before.before) (relay (lang-eq c.before.before.before.before.before.before.before.before.before.before) c.lay_one-m.ensures)
 
-room₂ : (c : tie.After-lay_slots-p) → Room ((head c.before.before.before.before.before.before.before.before.before.before.before.before.before.before.before.before.before.before.before.before.before.before.before.before).author ++ (head c.before.before.before.before.before.before.before.before.before.before.before.before.before.before.before.before.before.before.before.before.before.before.before.before).measures) c.lay_slots-p.new.text c.lay_slots-p.result
-room₂ c = room_behind (head c.before.before.before.before.before.before.before.before.before.before.before.before.before.before.before.before.before.before.before.before.before.before.before.before).person _ (room₁ c.before.before.before.before.before.before.before) (relay (person-eq c.before.before.before) c.lay_slots-p.ensures)
+room₂ : (c : tie.After-lay_slots-p) → Room ((head c.before.before.before.before.before.before.before.before.before.before.before.before.before.before.before.before.before.before.before.before.before.before.before.before.before).author ++ (head c.before.before.before.before.before.before.before.before.before.before.before.before.before.before.before.before.before.before.before.before.before.before.before.before.before).measures) c.lay_slots-p.new.text c.lay_slots-p.result
+room₂ c = room_behind (head c.before.before.before.before.before.before.before.before.before.before.before.before.before.before.before.before.before.before.before.before.before.before.before.before.before).person _ (room₁ c.before.before.before.before.before.before.before) (relay (person-eq c.before.before.before) c.lay_slots-p.ensures)
 
-room₃ : (c : tie.After-lay_slots-a) → Room (head c.before.before.before.before.before.before.before.before.before.before.before.before.before.before.before.before.before.before.before.before.before.before.before.before.before.before.before.before.before.before.before).measures c.lay_slots-a.new.text c.lay_slots-a.result
-room₃ c = room_behind (head c.before.before.before.before.before.before.before.before.before.before.before.before.before.before.before.before.before.before.before.before.before.before.before.before.before.before.before.before.before.before.before).author _ (room₂ c.before.before.before.before.before.before.before) (relay (author-eq c.before.before.before) c.lay_slots-a.ensures)
+room₃ : (c : tie.After-lay_slots-a) → Room (head c.before.before.before.before.before.before.before.before.before.before.before.before.before.before.before.before.before.before.before.before.before.before.before.before.before.before.before.before.before.before.before.before).measures c.lay_slots-a.new.text c.lay_slots-a.result
+room₃ c = room_behind (head c.before.before.before.before.before.before.before.before.before.before.before.before.before.before.before.before.before.before.before.before.before.before.before.before.before.before.before.before.before.before.before.before).author _ (room₂ c.before.before.before.before.before.before.before) (relay (author-eq c.before.before.before) c.lay_slots-a.ensures)
 
 -- how long the numbers are
 long₀ : (c : tie.After-lay_slots-u) → length c.lay_slots-u.new.numbers ≡ 54
@@ -88,7 +88,7 @@ slice-aggregate-lay-one : tie.Need-slice_bounds-lay_one-end
 slice-aggregate-lay-one c = sym (long₀ c.before.before.before.before.before)
 
 lay-one-requires : tie.Need-lay_one-m-requires
-lay-one-requires c κs = (reroom (sym (lang-eq c.before.before.before.before.before.before.before.before.before)) (room_first ((head c.before.before.before.before.before.before.before.before.before.before.before.before.before.before.before.before).lang ∷ []) _ _ _ (room₀ c.before.before.before.before.before)), omega (arith, long₀ c.before.before.before.before.before))
+lay-one-requires c κs = (reroom (sym (lang-eq c.before.before.before.before.before.before.before.before.before)) (room_first ((head c.before.before.before.before.before.before.before.before.before.before.before.before.before.before.before.before.before).lang ∷ []) _ _ _ (room₀ c.before.before.before.before.before)), omega (arith, long₀ c.before.before.before.before.before))
 
 count-of-requires : tie.Need-count_of-requires
 count-of-requires c κs = search rules
@@ -101,7 +101,7 @@ unfolding kind_at
 lay-slots-requires-2 c κs =
     let P = c.before.before.before.before.before.before.before.before.before.before.before.before.before.before.before.before.before.before.before.before.before.before.before.before.requires.0.person_at in
     let e = c.before.before.count_of.ensures.0 in
-    (part_within P _ e, part_lie P _ e, reroom (sym (person-eq c.before.before)) (room_first (head c.before.before.before.before.before.before.before.before.before.before.before.before.before.before.before.before.before.before.before.before.before.before.before).person _ _ _ (room₁ c.before.before.before.before.before.before)), omega (arith, e, p_room, long₁ c.before.before.before.before.before.before))
+    (part_within P _ e, part_lie P _ e, reroom (sym (person-eq c.before.before)) (room_first (head c.before.before.before.before.before.before.before.before.before.before.before.before.before.before.before.before.before.before.before.before.before.before.before.before).person _ _ _ (room₁ c.before.before.before.before.before.before)), omega (arith, e, p_room, long₁ c.before.before.before.before.before.before))
 
 count-of-requires-2 : tie.Need-count_of-requires-2
 count-of-requires-2 c κs = search rules
@@ -114,7 +114,7 @@ unfolding kind_at
 lay-slots-requires-3 c κs =
     let P = c.before.before.before.before.before.before.before.before.before.before.before.before.before.before.before.before.before.before.before.before.before.before.before.before.before.before.before.before.before.before.before.requires.0.author_at in
     let e = c.before.before.count_of-2.ensures.0 in
-    (part_within P _ e, part_lie P _ e, reroom (sym (author-eq c.before.before)) (room_first (head c.before.before.before.before.before.before.before.before.before.before.before.before.before.before.before.before.before.before.before.before.before.before.before.before.before.before.before.before.before.before).author _ _ _ (room₂ c.before.before.before.before.before.before)), omega (arith, e, a_room, long₂ c.before.before.before.before.before.before))
+    (part_within P _ e, part_lie P _ e, reroom (sym (author-eq c.before.before)) (room_first (head c.before.before.before.before.before.before.before.before.before.before.before.before.before.before.before.before.before.before.before.before.before.before.before.before.before.before.before.before.before.before.before).author _ _ _ (room₂ c.before.before.before.before.before.before)), omega (arith, e, a_room, long₂ c.before.before.before.before.before.before))
 
 count-of-requires-3 : tie.Need-count_of-requires-3
 count-of-requires-3 c κs = search rules

@@ -35,8 +35,8 @@ loop-holds c =
     let k = kind_at S.args.kind in
     let C = c.before.before.clear in
     let n = c.before.before.before.count_in.ensures.0 in
-    held_none S.args.page.now k S.args.base S.args.from _ C.new.0 S.args.side.now S.args.used S.requires.0
-    (λ j a b. C.ensures.1 j a (omega (arith, b, n, so_many k))) refl S.requires.7 (omega (arith, S.requires.5, C.auto.0)) refl
+    held_none S.args.page.now k S.args.base S.args.from _ C.new.numbers S.args.side.now S.args.used S.requires.0
+    (λ j a b. C.ensures.1 j a (omega (arith, b, n, so_many k))) refl S.requires.7 (omega (arith, S.requires.5, C.auto.numbers)) refl
 
 spaces-end-requires : tie.Need-spaces_end-a-requires invariant-loop decreases-loop
 spaces-end-requires c κs = search rules

@@ -28,7 +28,7 @@ slice-aggregate-lay-page-4 c = search rules
 lay-page-requires-2 : tie.Need-lay_page-b-requires
 lay-page-requires-2 c κs =
     let A = c.before.before.before.before.before.lay_page-a in
-    (c.before.before.before.before.before.before.before.before.before.before.before.before.requires.1, c.before.before.before.before.before.before.before.before.before.keys-keys.ensures, omega (arith, A.ensures.1, A.auto.1.1.0), omega (arith, A.auto.1.1.0), omega (arith, A.ensures.2, A.auto.1.1.1.1.0), omega (arith, A.auto.1.1.1.1.0))
+    (c.before.before.before.before.before.before.before.before.before.before.before.before.requires.1, c.before.before.before.before.before.before.before.before.before.keys-keys.ensures, omega (arith, A.ensures.1, A.auto.tape), omega (arith, A.auto.tape), omega (arith, A.ensures.2, A.auto.side), omega (arith, A.auto.side))
 
 slice-aggregate-find-head : tie.Need-slice_bounds-find_head-end
 slice-aggregate-find-head c = search rules
@@ -40,7 +40,7 @@ find-head-requires : tie.Need-find_head-h-requires
 find-head-requires c κs =
     let A = c.before.before.before.before.before.before.before.before.before.before.lay_page-a in
     let B = c.before.before.before.before.lay_page-b in
-    made_still A.ensures.0 B.ensures.0 (blank_new 8820 (omega arith)) (omega arith) A.auto.1.1.0 B.auto.1.1.0
+    made_still A.ensures.0 B.ensures.0 (blank_new 8820 (omega arith)) (omega arith) A.auto.tape B.auto.tape
 
 slice-aggregate-find-head-3 : tie.Need-slice_bounds-find_head-end-3
 slice-aggregate-find-head-3 c = search rules
@@ -52,7 +52,7 @@ find-head-requires-2 : tie.Need-find_head-k-requires
 find-head-requires-2 c κs =
     let A = c.before.before.before.before.before.before.before.before.before.before.before.before.before.lay_page-a in
     let B = c.before.before.before.before.before.before.before.lay_page-b in
-    made_read B.ensures.0 (made_read A.ensures.0 (blank_new 8820 (omega arith)) (omega arith) A.auto.1.1.0).blank (omega (arith, A.ensures.0.taped.some)) B.auto.1.1.0
+    made_read B.ensures.0 (made_read A.ensures.0 (blank_new 8820 (omega arith)) (omega arith) A.auto.tape).blank (omega (arith, A.ensures.0.taped.some)) B.auto.tape
 
 slice-aggregate-alike : tie.Need-slice_bounds-alike-end
 slice-aggregate-alike c = search rules

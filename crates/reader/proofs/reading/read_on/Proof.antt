@@ -78,7 +78,7 @@ lay-all-requires c κs =
     let J = c.before.before.before.before.before.before.before.before.judge_all-judged in
     let T = c.before.before.before.before.before.before.before.before.before.before.before.before.before.before.take_all-taken.auto in
     let C = c.before.before.before.before.clear in
-    let l = C.auto.0 ∙ T.1.1.1.0 in (
+    let l = C.auto.numbers ∙ T.1.1.1.0 in (
       F.nine,
       F.lie,
       sheets_told (pages s) J.result J.ensures (sym c.before.before.before.before.before.before.before.refusal_number.ensures ∙ c.before.before.before.before.before.before.if-refusal_number-ne0.false),

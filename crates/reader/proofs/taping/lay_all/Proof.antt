@@ -94,10 +94,10 @@ loop-again c =
     let g = v.going in
     record {
       high = omega (arith, h);
-      tape-long = P.auto.1.1.0 ∙ v.tape-long;
-      side-long = P.auto.1.1.1.1.0 ∙ v.side-long;
-      going = again g (omega (arith, h, start.requires.0)) at-page-at.page_at-page.ensures P.ensures.0 P.auto.1.1.0 P.auto.1.1.1.1.0;
-      tape-used = omega (arith, last g (omega (arith, h, start.requires.0)) at-page-at.page_at-page.ensures P.ensures.0 P.auto.1.1.0 P.auto.1.1.1.1.0, P.ensures.1, v.tape-used);
+      tape-long = P.auto.tape ∙ v.tape-long;
+      side-long = P.auto.side ∙ v.side-long;
+      going = again g (omega (arith, h, start.requires.0)) at-page-at.page_at-page.ensures P.ensures.0 P.auto.tape P.auto.side;
+      tape-used = omega (arith, last g (omega (arith, h, start.requires.0)) at-page-at.page_at-page.ensures P.ensures.0 P.auto.tape P.auto.side, P.ensures.1, v.tape-used);
       side-used = omega (arith, P.ensures.2, v.side-used);
     }
 

@@ -89,9 +89,9 @@ loop-again c =
     let P = c.before.before.before.before.before.before.take-made in
     record {
       high = omega (arith, at-loop-test.loop-k-test.true);
-      tape-long = P.auto.1.1.1.1.1.0 ∙ v.tape-long;
-      side-long = P.auto.1.1.1.1.1.1.1.0 ∙ v.side-long;
-      going = again v.going (omega (arith, at-loop-test.loop-k-test.true, c.before.before.before.before.before.before.before.before.before.before.before.before.before.before.before.before.before.before.before.before.before.before.before.before.before.requires.0)) c.before.before.before.before.before.before.before.before.before.before.before.before.before.page_at-page.ensures (P.ensures c.if-made-eq0.false) P.auto.1.1.1.1.1.0 P.auto.1.1.1.1.1.1.1.0;
+      tape-long = P.auto.tape ∙ v.tape-long;
+      side-long = P.auto.side ∙ v.side-long;
+      going = again v.going (omega (arith, at-loop-test.loop-k-test.true, c.before.before.before.before.before.before.before.before.before.before.before.before.before.before.before.before.before.before.before.before.before.before.before.before.before.requires.0)) c.before.before.before.before.before.before.before.before.before.before.before.before.before.page_at-page.ensures (P.ensures c.if-made-eq0.false) P.auto.tape P.auto.side;
     }
 
 same-length-3 : tie.Need-shape_of-tape invariant-loop decreases-loop

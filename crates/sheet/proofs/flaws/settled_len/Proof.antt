@@ -16,7 +16,7 @@ slice-reshare-prefix-is-zero : tie.Need-slice_bounds-is_zero-end
 slice-reshare-prefix-is-zero c = search rules
 
 slice-aggregate-is-zero : tie.Need-slice_bounds-is_zero-end-2
-slice-aggregate-is-zero c = let N = c.before.before.value_len-n in sym (length-take-le _ _ (omega (arith, N.ensures.1, N.auto.1.1.1.0)))
+slice-aggregate-is-zero c = let N = c.before.before.value_len-n in sym (length-take-le _ _ (omega (arith, N.ensures.1, N.auto.scratch)))
 
 is-zero-requires : tie.Need-is_zero-requires
 is-zero-requires c κs = search rules

@@ -79,7 +79,7 @@ cast-left : tie.Need-overflow_cast-left
 cast-left c = search rules
 
 count-line-requires : tie.Need-count_line-a-requires
-count-line-requires c κs = let F = c.before.before.before in next_fits (at_source F) (drop 1 (at_five F)) (begun F.before)
+count-line-requires c κs = let F = c.before.before.before in next_fits (at_source F.before) (drop 1 (at_five F.before)) (begun F.before)
 
 count-line-requires-2 : tie.Need-count_line-b-requires
 count-line-requires-2 c κs = let C = c.before.before.before.before in next_fits (cut_at (first C.before)) (drop 2 (at_five (first C.before))) (going-1 C.before)

@@ -28,8 +28,8 @@ fit : (S : tie.Start invariant-loop decreases-loop) → Fits S.args.out.now 0 (p
 fit S = all_fit S.args.list.now S.args.count S.requires.0 S.args.out.now S.requires.1
 
 -- those of the rows behind the count's
-rows_fit : (c : tie.After-count_line-a invariant-loop decreases-loop) → Fits c.count_line-a.new.out c.count_line-a.result (rows_of c.before.before.before.before.before)
-rows_fit c = let S = c.before.before.before.before.before in second_fits (rows_of S) (fit S.before) c.count_line-a.ensures
+rows_fit : (c : tie.After-count_line-a invariant-loop decreases-loop) → Fits c.count_line-a.new.out c.count_line-a.result (rows_of c.before.before.before.before.before.before)
+rows_fit c = let S = c.before.before.before.before.before in second_fits (rows_of S.before) (fit S.before) c.count_line-a.ensures
 
 -- where the count was written, and where the call began
 abbrev counting : tie.At-loop-i invariant-loop decreases-loop → tie.After-count_line-a invariant-loop decreases-loop

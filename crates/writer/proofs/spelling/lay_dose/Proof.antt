@@ -45,23 +45,23 @@ inside : (D : tie.In-Scheme) → let S = D.before.before.before.before in dose_w
 inside D = let S = D.before.before.before.before in ap (dose_within (length S.args.text.now)) (sym D.in-Scheme.is) ∙ S.requires.1
 
 -- what is left behind each of the first three
-one_in : (c : tie.After-lay_field-a) → let S = c.before.before.before.before.before.before.before.before.before.before.before in let x = times c.before.before.before.before.before.before.before.before in Going S.args.out.now c.lay_field-a.new.out S.args.at c.lay_field-a.result (dose_text (paper_dose S.args.text.now (Scheme x))) (part S (bytes "d") x.midday ++ (part S (bytes "v") x.evening ++ part S (bytes "h") x.night))
+one_in : (c : tie.After-lay_field-a) → let S = c.before.before.before.before.before.before.before.before.before.before.before in let x = times c.before.before.before.before.before.before.before in Going S.args.out.now c.lay_field-a.new.out S.args.at c.lay_field-a.result (dose_text (paper_dose S.args.text.now (Scheme x))) (part S (bytes "d") x.midday ++ (part S (bytes "v") x.evening ++ part S (bytes "h") x.night))
 one_in c =
     let D = c.before.before.before.before.before.before.before in
     let S = c.before.before.before.before.before.before.before.before.before.before.before in
     let x = times D in
     going_on (going_start (fit D)) (part S (bytes "m") x.morning) (part S (bytes "d") x.midday ++ (part S (bytes "v") x.evening ++ part S (bytes "h") x.night)) refl (as-named (get_or S.args.keys.now 37 0) (bytes "m") (shown S.args.text.now (paper_span x.morning)) (dose_names S.args.keys.now S.requires.0).0 c.lay_field-a.ensures)
 
-two_in : (c : tie.After-lay_field-b) → let S = c.before.before.before.before.before.before.before.before.before.before.before.before.before.before.before.before in let x = times c.before.before.before.before.before.before.before.before.before.before.before.before.before in Going S.args.out.now c.lay_field-b.new.out S.args.at c.lay_field-b.result (dose_text (paper_dose S.args.text.now (Scheme x))) (part S (bytes "v") x.evening ++ part S (bytes "h") x.night)
+two_in : (c : tie.After-lay_field-b) → let S = c.before.before.before.before.before.before.before.before.before.before.before.before.before.before.before.before in let x = times c.before.before.before.before.before.before.before.before.before.before.before.before in Going S.args.out.now c.lay_field-b.new.out S.args.at c.lay_field-b.result (dose_text (paper_dose S.args.text.now (Scheme x))) (part S (bytes "v") x.evening ++ part S (bytes "h") x.night)
 two_in c =
     let S = c.before.before.before.before.before.before.before.before.before.before.before.before.before.before.before.before in
-    let x = times c.before.before.before.before.before.before.before.before.before.before.before.before.before in
+    let x = times c.before.before.before.before.before.before.before.before.before.before.before.before in
     going_on (one_in c.before.before.before.before.before) (part S (bytes "d") x.midday) (part S (bytes "v") x.evening ++ part S (bytes "h") x.night) refl (as-named (get_or S.args.keys.now 38 0) (bytes "d") (shown S.args.text.now (paper_span x.midday)) (dose_names S.args.keys.now S.requires.0).1 c.lay_field-b.ensures)
 
-three-in : (c : tie.After-lay_field-c) → let S = c.before.before.before.before.before.before.before.before.before.before.before.before.before.before.before.before.before.before.before.before.before in let x = times c.before.before.before.before.before.before.before.before.before.before.before.before.before.before.before.before.before.before in Going S.args.out.now c.lay_field-c.new.out S.args.at c.lay_field-c.result (dose_text (paper_dose S.args.text.now (Scheme x))) (part S (bytes "h") x.night)
+three-in : (c : tie.After-lay_field-c) → let S = c.before.before.before.before.before.before.before.before.before.before.before.before.before.before.before.before.before.before.before.before.before in let x = times c.before.before.before.before.before.before.before.before.before.before.before.before.before.before.before.before.before in Going S.args.out.now c.lay_field-c.new.out S.args.at c.lay_field-c.result (dose_text (paper_dose S.args.text.now (Scheme x))) (part S (bytes "h") x.night)
 three-in c =
     let S = c.before.before.before.before.before.before.before.before.before.before.before.before.before.before.before.before.before.before.before.before.before in
-    let x = times c.before.before.before.before.before.before.before.before.before.before.before.before.before.before.before.before.before.before in
+    let x = times c.before.before.before.before.before.before.before.before.before.before.before.before.before.before.before.before.before in
     going_on (two_in c.before.before.before.before.before) (part S (bytes "v") x.evening) (part S (bytes "h") x.night) refl (as-named (get_or S.args.keys.now 39 0) (bytes "v") (shown S.args.text.now (paper_span x.evening)) (dose_names S.args.keys.now S.requires.0).2 c.lay_field-c.ensures)
 
 -- the free text fits

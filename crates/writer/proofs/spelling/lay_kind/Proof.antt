@@ -30,16 +30,16 @@ abbrev tag : tie.Start → List ℕ → ℕ → ℕ → List ℕ → List ℕ
 tag S begin first n end = tag_text begin first n S.args.text.now (span_place S.args.i 0) S.args.rows.now end
 
 -- what is spelled for each kind
-row-1 : (c : tie.In-Heading) → let a = c.before.before.before.before.before.args in row_text (show_row a.text.now (record_at a.rows.now a.i)) ≡ tag c.before.before.before.before.before.before (bytes "<S") 31 2 (bytes ">")
+row-1 : (c : tie.In-Heading) → let a = c.before.before.before.before.before.args in row_text (show_row a.text.now (record_at a.rows.now a.i)) ≡ tag c.before.before.before.before.before (bytes "<S") 31 2 (bytes ">")
 row-1 c = let S = c.before.before.before.before.before in let a = S.args in heading_is a.text.now a.rows.now a.i (sym S.requires.3 ∙ ap paper_kind c.in-Heading.is)
 
 row-2 : (c : tie.In-Medication) → let a = c.before.before.before.before.before.args in row_text (show_row a.text.now (record_at a.rows.now a.i)) ≡ medication_text a.text.now a.rows.now a.i
 row-2 c = let S = c.before.before.before.before.before in let a = S.args in medication_is a.text.now a.rows.now a.i (sym S.requires.3 ∙ ap paper_kind c.in-Medication.is) S.requires.2
 
-row-3 : (c : tie.In-Recipe) → let a = c.before.before.before.before.before.args in row_text (show_row a.text.now (record_at a.rows.now a.i)) ≡ tag c.before.before.before.before.before.before (bytes "<R") 49 2 (bytes "/>")
+row-3 : (c : tie.In-Recipe) → let a = c.before.before.before.before.before.args in row_text (show_row a.text.now (record_at a.rows.now a.i)) ≡ tag c.before.before.before.before.before (bytes "<R") 49 2 (bytes "/>")
 row-3 c = let S = c.before.before.before.before.before in let a = S.args in recipe_is a.text.now a.rows.now a.i (sym S.requires.3 ∙ ap paper_kind c.in-Recipe.is)
 
-row-4 : (c : tie.In-Note) → let a = c.before.before.before.before.before.args in row_text (show_row a.text.now (record_at a.rows.now a.i)) ≡ tag c.before.before.before.before.before.before (bytes "<X") 51 1 (bytes "/>")
+row-4 : (c : tie.In-Note) → let a = c.before.before.before.before.before.args in row_text (show_row a.text.now (record_at a.rows.now a.i)) ≡ tag c.before.before.before.before.before (bytes "<X") 51 1 (bytes "/>")
 row-4 c = let S = c.before.before.before.before.before in let a = S.args in note_is a.text.now a.rows.now a.i (sym S.requires.3 ∙ ap paper_kind c.in-Note.is)
 
 -- and it fits

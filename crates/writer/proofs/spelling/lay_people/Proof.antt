@@ -80,7 +80,7 @@ slice-aggregate-lay-tag-2 c = search rules
 lay-tag-requires : tie.Need-lay_tag-b-requires
 lay-tag-requires c κs =
     let H = c.before.before.before.before in
-    ((from-numbers H.before.before).requires.0, search rules, search rules, inside-at H.before.before 2 8 (omega arith), going_fits (going_start (fit H.before.before)) (person H) (author H ++ measures H) refl)
+    ((from-numbers H.before.before).requires.0, search rules, search rules, inside-at H.before.before 2 8 (omega arith), going_fits (going_start (fit H.before.before)) (person H.before.before) (author H.before.before ++ measures H.before.before) refl)
 
 lay-tag-requires-2 : tie.Need-lay_tag-o-requires
 lay-tag-requires-2 c κs =
@@ -110,8 +110,8 @@ lay_people_spec =
     (tie.spec
     head-numbers-requires
     slice-aggregate-lay-tag
-    slice-aggregate-lay-tag-2
     lay-tag-requires
+    slice-aggregate-lay-tag-2
     lay-tag-requires-2
     slice-aggregate-lay-measures
     lay-measures-requires

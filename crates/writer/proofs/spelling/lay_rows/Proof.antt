@@ -78,10 +78,10 @@ other-first c = let a = (from-else-2 c).args in other a.heading a.placed.now c.b
 other_fits : (c : tie.Else-heading) → let a = (from-else-2 c).args in Fits a.out.now a.at (all c)
 other_fits c = fits_as (other-first c) (fits (from-else-2 c).requires.1)
 
-open_in : (c : tie.After-lay-b) → let I = c.before.before.before in let a = (from-else-2 I.before).args in Going a.out.now c.lay-b.new.out a.at c.lay-b.result (all I) (a.placed.now ++ bytes "</S></MP>")
+open_in : (c : tie.After-lay-b) → let I = c.before.before.before in let a = (from-else-2 I.before).args in Going a.out.now c.lay-b.new.out a.at c.lay-b.result (all I.before) (a.placed.now ++ bytes "</S></MP>")
 open_in c = let I = c.before.before.before in going_on (going_start (other_fits I.before)) (bytes "<S>") ((from-else-2 I.before).args.placed.now ++ bytes "</S></MP>") refl (wrote c.lay-b.ensures)
 
-rows_in : (c : tie.After-lay-c) → let I = c.before.before.before.before.before.before.before in let a = (from-else-2 I.before).args in Going a.out.now c.lay-c.new.out a.at c.lay-c.result (all I) (bytes "</S></MP>")
+rows_in : (c : tie.After-lay-c) → let I = c.before.before.before.before.before.before.before in let a = (from-else-2 I.before).args in Going a.out.now c.lay-c.new.out a.at c.lay-c.result (all I.before) (bytes "</S></MP>")
 rows_in c = let O = c.before.before.before.before in let I = O.before.before.before in going_on (open_in O) (from-else-2 I.before).args.placed.now (bytes "</S></MP>") refl (wrote c.lay-c.ensures)
 
 lay-requires : tie.Need-lay-requires

@@ -34,22 +34,22 @@ fit S = fits S.requires.5
 
 -- what is left behind each of them
 begun : (c : tie.After-lay-begun) → let S = c.before.before.before.before.before.before.before.before in Going S.args.out.now c.lay-begun.new.out S.args.at c.lay-begun.result (whole S) (number S ++ (named S ++ final S))
-begun c = let S = c.before.before.before.before.before.before.before in going_on (going_start (fit S.before)) begin (number S ++ (named S ++ final S)) refl (wrote c.lay-begun.ensures)
+begun c = let S = c.before.before.before.before.before.before.before in going_on (going_start (fit S.before)) begin (number S.before ++ (named S.before ++ final S.before)) refl (wrote c.lay-begun.ensures)
 
 number_in : (c : tie.After-lay_number-patched) → let S = c.before.before.before.before.before.before.before.before.before.before.before.before in Going S.args.out.now c.lay_number-patched.new.out S.args.at c.lay_number-patched.result (whole S) (named S ++ final S)
-number_in c = let S = c.before.before.before.before.before.before.before.before.before.before.before in going_on (begun c.before.before.before.before) (number S) (named S ++ final S) refl c.lay_number-patched.ensures
+number_in c = let S = c.before.before.before.before.before.before.before.before.before.before.before in going_on (begun c.before.before.before.before) (number S.before) (named S.before ++ final S.before) refl c.lay_number-patched.ensures
 
 named_in : (c : tie.After-lay_fields-named) → let S = c.before.before.before.before.before.before.before.before.before.before.before.before.before.before.before.before in Going S.args.out.now c.lay_fields-named.new.out S.args.at c.lay_fields-named.result (whole S) (final S)
-named_in c = let S = c.before.before.before.before.before.before.before.before.before.before.before.before.before.before.before in going_on (number_in c.before.before.before.before) (named S) (final S) refl c.lay_fields-named.ensures
+named_in c = let S = c.before.before.before.before.before.before.before.before.before.before.before.before.before.before.before in going_on (number_in c.before.before.before.before) (named S.before) (final S.before) refl c.lay_fields-named.ensures
 
 slice-aggregate-lay : tie.Need-slice_bounds-lay-end-2
 slice-aggregate-lay c = search rules
 
 lay-requires : tie.Need-lay-begun-requires
-lay-requires c κs = let S = c.before.before.before.before.before.before in going_fits (going_start (fit S.before)) begin (number S ++ (named S ++ final S)) refl
+lay-requires c κs = let S = c.before.before.before.before.before.before in going_fits (going_start (fit S.before)) begin (number S.before ++ (named S.before ++ final S.before)) refl
 
 lay-number-requires : tie.Need-lay_number-patched-requires
-lay-number-requires c κs = let L = c.before.before.before in let S = L.before.before.before.before.before.before.before in going_fits (begun L) (number S) (named S ++ final S) refl
+lay-number-requires c κs = let L = c.before.before.before in let S = L.before.before.before.before.before.before.before in going_fits (begun L) (number S.before) (named S.before ++ final S.before) refl
 
 lay-fields-requires : tie.Need-lay_fields-named-requires
 lay-fields-requires c κs = let N = c.before.before.before in let S = N.before.before.before.before.before.before.before.before.before.before.before.before in (S.requires.0, search rules, S.requires.3, S.requires.4, going_fits (number_in N) (named S) (final S) refl)
@@ -74,12 +74,12 @@ pub lay_start_spec : {M : Type 1} → statement M
 lay_start_spec =
     tie.close
     (tie.spec
-    slice-aggregate-lay
     lay-requires
     lay-number-requires
     lay-fields-requires
     add-t22
     add-t23
+    slice-aggregate-lay
     lay-requires-2
     same_length
     returns)

@@ -41,10 +41,10 @@ name_in : (c : tie.After-lay_name-a) → let S = c.before.before.before.before i
 name_in c = let S = c.before.before.before.before in going_on (blank-in S) (name_of S.args.letters) (61 ∷ 34 ∷ (raw S ++ 34 ∷ [])) refl (wrote c.lay_name-a.ensures)
 
 sign-in : (c : tie.After-lay-b) → let S = c.before.before.before.before.before.before.before.before.before.before in Going S.args.out.now c.lay-b.new.out S.args.at c.lay-b.result (whole S) (raw S ++ 34 ∷ [])
-sign-in c = let S = c.before.before.before.before.before.before.before.before.before in going_on (name_in c.before.before.before.before.before.before) (bytes "=\"") (raw S ++ 34 ∷ []) refl (wrote c.lay-b.ensures)
+sign-in c = let S = c.before.before.before.before.before.before.before.before.before in going_on (name_in c.before.before.before.before.before.before) (bytes "=\"") (raw S.before ++ 34 ∷ []) refl (wrote c.lay-b.ensures)
 
 value_in : (c : tie.After-lay_value-c) → let S = c.before.before.before.before.before.before.before.before.before.before.before.before.before.before in Going S.args.out.now c.lay_value-c.new.out S.args.at c.lay_value-c.result (whole S) (34 ∷ [])
-value_in c = let S = c.before.before.before.before.before.before.before.before.before.before.before.before.before in going_on (sign-in c.before.before.before.before) (raw S) (34 ∷ []) refl c.lay_value-c.ensures
+value_in c = let S = c.before.before.before.before.before.before.before.before.before.before.before.before.before in going_on (sign-in c.before.before.before.before) (raw S.before) (34 ∷ []) refl c.lay_value-c.ensures
 
 -- all is written
 all_in : (c : tie.After-lay_value-c) → let S = c.before.before.before.before.before.before.before.before.before.before.before.before.before.before in Wrote S.args.out.now (set c.lay_value-c.new.out c.lay_value-c.result 34) S.args.at (c.lay_value-c.result + 1) (whole S)
@@ -60,7 +60,7 @@ lay-name-requires : tie.Need-lay_name-a-requires
 lay-name-requires c κs = let S = c.before.before.before in going_fits (blank-in S) (name_of S.args.letters) (61 ∷ 34 ∷ (raw S ++ 34 ∷ [])) refl
 
 lay-requires : tie.Need-lay-b-requires
-lay-requires c κs = let N = c.before.before.before.before in going_fits (name_in N.before) (bytes "=\"") (raw N.before.before.before.before ++ 34 ∷ []) refl
+lay-requires c κs = let N = c.before.before.before.before in going_fits (name_in N.before) (bytes "=\"") (raw N.before.before.before.before.before ++ 34 ∷ []) refl
 
 slice-write-out-2 : tie.Need-bounds-out-c
 slice-write-out-2 c = byte_fits (value_in c.before.before)
