@@ -92,13 +92,13 @@ module _ (P : tie.In-Attribute invariant-loop decreases-loop) where
   shape = P.before.next_attr-piece.ensures.0 ∙ ap (first_of page) P.in-Attribute.is
 
 sub-field-in : tie.Need-slice_bounds-field_in-count invariant-loop decreases-loop
-sub-field-in c = let h = order c.before.before in omega (arith, h.1)
+sub-field-in c = let h = order c.before in omega (arith, h.1)
 
 part-field-in-start : tie.Need-slice_bounds-field_in-start invariant-loop decreases-loop
-part-field-in-start c = let h = order c.before.before in omega (arith, h.1)
+part-field-in-start c = let h = order c.before in omega (arith, h.1)
 
 part-field-in-end : tie.Need-slice_bounds-field_in-end-in-Attribute invariant-loop decreases-loop
-part-field-in-end c = let h = order c.before.before in omega (arith, h.2, h.3, h.4)
+part-field-in-end c = let h = order c.before in omega (arith, h.2, h.3, h.4)
 
 field-in-requires : tie.Need-field_in-j-requires invariant-loop decreases-loop
 field-in-requires c κs = search rules
@@ -116,12 +116,12 @@ module _ (F : tie.After-field_in-j invariant-loop decreases-loop) where
       ∙ ap (λ m. place_in m (fields_of (kind_at (entry (head at_piece)).args.kind))) (part_is (page at_piece) at_piece.in-Attribute.name_at at_piece.in-Attribute.name_end)
 
   -- how many fields the element has
-  so-many : (counted (head at_piece)).count_of.result ≡ count_of (kind_at (entry (head at_piece)).args.kind)
-  so-many = (counted (head at_piece)).count_of.ensures.0
+  so-many : (counted (head at_piece)).count_of-count.result ≡ count_of (kind_at (entry (head at_piece)).args.kind)
+  so-many = (counted (head at_piece)).count_of-count.ensures.0
 
   -- the numbers of a field that is known are lent
-  lent : F.field_in-j.result < (counted (head at_piece)).count_of.result → 2 * F.field_in-j.result + 1 < length (head at_piece).loop.raws
-  lent h = omega (arith, h, so-many, (entry (head at_piece)).pre.4, long (head at_piece))
+  lent : F.field_in-j.result < (counted (head at_piece)).count_of-count.result → 2 * F.field_in-j.result + 1 < length (head at_piece).loop-shut.raws
+  lent h = omega (arith, h, so-many, (entry (head at_piece)).requires.4, long (head at_piece))
 
 same-length-2 : tie.Need-shape_of-raws-then-j-count invariant-loop decreases-loop
 same-length-2 c = long (head (at_piece c.before))
@@ -130,7 +130,7 @@ returns-2 : tie.Need-returns-then-j-count invariant-loop decreases-loop
 returns-2 c =
     let F = c.before in
     let P = at_piece F in
-    (at_unknown (head P).loop.inv.0 _ _ _ (shape P) _ _ (place F) (so-many F) c.if-j-count.true, λ z. no z)
+    (at_unknown (head P).loop-shut.invariant.0 _ _ _ (shape P) _ _ (place F) (so-many F) c.if-j-count.true, λ z. no z)
 
 mul-s : tie.Need-overflow_mul-s invariant-loop decreases-loop
 mul-s c = search rules
@@ -148,7 +148,7 @@ returns-3 : tie.Need-returns-then-raws-s-ne0 invariant-loop decreases-loop
 returns-3 c =
     let F = c.before.before.before in
     let P = at_piece F in
-    (at_twice (head P).loop.inv.0 _ _ _ (shape P) _ _ (place F) (so-many F) c.before.before.if-j-count.false c.if-raws-s-ne0.true, λ z. no z)
+    (at_twice (head P).loop-shut.invariant.0 _ _ _ (shape P) _ _ (place F) (so-many F) c.before.before.if-j-count.false c.if-raws-s-ne0.true, λ z. no z)
 
 -- an attribute that is known and new
 module _ (c : tie.Else-raws-s-ne0 invariant-loop decreases-loop) where
@@ -156,8 +156,8 @@ module _ (c : tie.Else-raws-s-ne0 invariant-loop decreases-loop) where
   new = c.before.before.before
 
   -- its raw bytes end within the page
-  ends : ((at_piece new).piece2.given.0.1.1.0 ≤ (at_piece new).piece2.given.0.1.1.1.0) × ((at_piece new).piece2.given.0.1.1.1.0 < 1400)
-  ends = let h = order (at_piece new) in (h.3, omega (arith, h.4, (entry (head (at_piece new))).pre.1))
+  ends : ((at_piece new).in-Attribute.raw_at ≤ (at_piece new).in-Attribute.raw_end) × ((at_piece new).in-Attribute.raw_end < 1400)
+  ends = let h = order (at_piece new) in (h.3, omega (arith, h.4, (entry (head (at_piece new))).requires.1))
 
 cast-raws : tie.Need-overflow_cast-raws invariant-loop decreases-loop
 cast-raws c = let h = ends c in omega (arith, h.0, h.1)
@@ -192,8 +192,8 @@ loop-again c =
     let P = at_piece F in
     let L = head P in
     let h = order P in (
-      at_next L.loop-shut.inv.0 _ _ _ (shape P) _ _ (place F) (so-many F) c.before.before.if-j-count.false c.if-raws-s-ne0.false _ _ refl refl (omega (arith, h.2)) h.3 h.4,
-      put_long L.loop-shut.raws _ _ _ ∙ L.loop-shut.inv.1,
+      at_next L.loop-shut.invariant.0 _ _ _ (shape P) _ _ (place F) (so-many F) c.before.before.if-j-count.false c.if-raws-s-ne0.false _ _ refl refl (omega (arith, h.2)) h.3 h.4,
+      put_long L.loop-shut.raws _ _ _ ∙ L.loop-shut.invariant.1,
     )
 
 pub find_spec : {M : Type 1} → statement M

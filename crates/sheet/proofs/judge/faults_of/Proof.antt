@@ -108,7 +108,7 @@ module _ (c : tie.After-kind_under-kind invariant-loop decreases-loop) where
       let i = start-at at_mark in
       let e = name-end at_mark in
       let w = page_at at-loop in
-      at-loop.loop-i.inv.right
+      at-loop.loop-i.invariant.right
       ∙ on_start (st_of at-loop.loop-i.st) _ (tags_at w (i + 1)) i (slice (i + 1) e w) within.attrs within.shut c.kind_under-kind.result
       (shape (started-by at_mark) (Start i e) at_mark.in-Start.is)
       (c.kind_under-kind.ensures.0 ∙ ap (λ (n : List ℕ). code (kind_under at-loop.loop-i.st.cur n)) (part_is w (i + 1) e))
@@ -219,7 +219,7 @@ same-length-2 : tie.Need-shape_of-scratch-then-bars invariant-loop decreases-loo
 same-length-2 c = search rules
 
 returns-2 : tie.Need-returns-then-bars invariant-loop decreases-loop
-returns-2 c = let K = c.before.before.before.before in five_at _ (start-at (at_mark K)) (turn K ∙ rw (sym c.before.bars.ensures ∙ c.if1.true))
+returns-2 c = let K = c.before.before.before.before in five_at _ (start-at (at_mark.before K)) (turn K.before ∙ rw (sym c.before.bars.ensures ∙ c.if1.true))
 
 slice-aggregate-find : tie.Need-slice_bounds-find-end invariant-loop decreases-loop
 slice-aggregate-find c = search rules
@@ -227,8 +227,8 @@ slice-aggregate-find c = search rules
 find-requires : tie.Need-find-found-requires invariant-loop decreases-loop
 find-requires c κs =
     let K = c.before.before.before.before in
-    let L = at-loop K in
-    ((start-order (at_mark K)).2, short L, K.kind_under-kind.ensures.1, L.loop-i.inv.table, omega (arith, enough K, L.loop-i.inv.lent))
+    let L = at-loop K.before.before.before in
+    ((start-order (at_mark.before K)).2, short L, K.kind_under-kind.ensures.1, L.loop-i.invariant.table, omega (arith, enough K.before.before.before, L.loop-i.invariant.lent))
 
 same-length-3 : tie.Need-shape_of-scratch-then-found invariant-loop decreases-loop
 same-length-3 c = search rules
@@ -238,11 +238,11 @@ returns-3 c =
     let E = c.before.before.before.before.before.before.before.before.before in
     let X = E.before in
     let K = X.before.before in
-    five_at _ (start-at (at_mark K)) (turn K ∙ rw (sym X.before.bars.ensures ∙ X.if1.false, sym E.find.ensures.0 ∙ c.if2.true))
+    five_at _ (start-at (at_mark.before K)) (turn K ∙ rw (sym X.before.bars.ensures ∙ X.if1.false, sym E.find.ensures.0 ∙ c.if2.true))
 
 -- the raw values that were found stand in as many numbers
 told_in : (E : tie.After-find-found invariant-loop decreases-loop) → length E.find-found.new.raws ≡ 104
-told_in E = E.find-found.auto.raws ∙ (at-loop E.before.before.before.before.before).loop.inv.lent
+told_in E = E.find-found.auto.raws ∙ (at-loop E.before.before.before.before.before.before.before.before).loop-i.invariant.lent
 
 slice-aggregate-flaw-of : tie.Need-slice_bounds-flaw_of-end invariant-loop decreases-loop
 slice-aggregate-flaw-of c = search rules
@@ -252,7 +252,7 @@ flaw-of-requires c κs =
     let E = c.before.before.before.before.before.before.before.before.before.before.before.before.before in
     let K = E.before.before.before.before.before in
     let L = at-loop K in
-    (roomy L, K.kind-under.ensures.1, omega (arith, enough K, told_in E), L.loop-i.inv.bounds)
+    (roomy L, K.kind-under.ensures.1, omega (arith, enough K, told_in E), L.loop-i.invariant.bounds)
 
 slice-aggregate-needs-w : tie.Need-slice_bounds-needs_w-end invariant-loop decreases-loop
 slice-aggregate-needs-w c = search rules
@@ -270,7 +270,7 @@ enter-requires c κs =
     let F = c.before.before.before.before.before.before.before.before.before.before.before.before.before.before.before.before.before.before.before.before.before.before.before in
     let X = F.before.before.before.before.before.before.before.before.before in
     let K = X.before.before in
-    (K.kind-under.ensures.1, (at-loop K).loop.invariant.sound, sym X.before.bars.ensures ∙ X.if1.false)
+    (K.kind-under.ensures.1, (at-loop K).loop-i.invariant.sound, sym X.before.bars.ensures ∙ X.if1.false)
 
 -- where the element of the start tag that is left behind is known
 abbrev known_at : tie.After-enter-st invariant-loop decreases-loop → tie.After-kind_under-kind invariant-loop decreases-loop
@@ -279,11 +279,11 @@ known_at c = c.before.before.before.before.before.before.before.before.before.be
 add-at-2 : tie.Need-overflow_add-at-in-Start invariant-loop decreases-loop
 add-at-2 c =
     let K = known_at c in
-    let h = start-order (at_mark K) in
-    omega (arith, h.1, h.2, short (at-loop K))
+    let h = start-order (at_mark.before K) in
+    omega (arith, h.1, h.2, short (at-loop K.before.before.before))
 
 loop-less-2 : tie.Need-loop-i-smaller invariant-loop decreases-loop
-loop-less-2 c = let h = start-order (at_mark (known_at c)) in omega (arith, h.0, h.1, h.2)
+loop-less-2 c = let h = start-order (at_mark.before (known_at c)) in omega (arith, h.0, h.1, h.2)
 
 loop-again-2 : tie.Need-loop-i-preserved invariant-loop decreases-loop
 loop-again-2 c =
@@ -293,21 +293,21 @@ loop-again-2 c =
     let E = Y.before.before in
     let X = E.before.before.before in
     let K = X.before.before in
-    let M = at_mark K in
-    let L = at-loop K in
-    let l = (within K).attrs in
-    let h = start-order M in
+    let M = at_mark K.before.before.before in
+    let L = at-loop K.before.before.before in
+    let l = (within K.before.before.before).attrs in
+    let h = start-order M.before in
     let (shut, tells) = E.find-found.ensures.1 Y.if-found.false in
     record {
       inner = omega (arith, h.1, h.2);
-      long = W.needs_w-needs.auto.scratch ∙ F.flaw_of-number.auto.scratch ∙ L.loop-i.inv.long;
+      long = W.needs_w-needs.auto.scratch ∙ F.flaw_of-number.auto.scratch ∙ L.loop-i.invariant.long;
       lent = told_in E;
-      table = L.loop-i.inv.table;
-      bounds = L.loop-i.inv.bounds;
+      table = L.loop-i.invariant.table;
+      bounds = L.loop-i.invariant.bounds;
       sound = c.enter-st.ensures.1;
-      right = turn K ∙ rw (sym X.before.bars.ensures ∙ X.if-bars.false, sym E.find-found.ensures.0 ∙ Y.if-found.false)
-          (ap (λ (s : St). judge_fold s (tags_at (page_at L) (start-at M + 1)))
-          (ap (behind K) (sym shut) ∙ sym (c.enter-st.ensures.0 l (F.flaw_of-number.ensures l tells) (W.needs_w-needs.ensures l tells))));
+      right = turn K.before.before.before ∙ rw (sym X.before.bars.ensures ∙ X.if-bars.false, sym E.find-found.ensures.0 ∙ Y.if-found.false)
+          (ap (λ (s : St). judge_fold s (tags_at (page_at L) (start-at M.before + 1)))
+          (ap (behind K.before.before.before) (sym shut) ∙ sym (c.enter-st.ensures.0 l (F.flaw_of-number.ensures l tells) (W.needs_w-needs.ensures l tells))));
     }
 
 pub faults_of_spec : {M : Type 1} → statement M

@@ -34,16 +34,16 @@ short c = (judges c.args.page.now (sheet_by (elems_of c.args.page.now)) c.requir
 ended : (c : tie.In-End invariant-loop decreases-loop) → let L = c.before.before in Ends (entry L).args.page.now L.loop-p.at c.in-End.p
 ended c = ends c.in-End.is c.before.next_tag-mark.ensures
 
-started : (c : tie.In-Start invariant-loop decreases-loop) → Starts (entry (head c)).args.page.now (head c).loop.at c.in-Start.p c.in-Start.name_end
+started : (c : tie.In-Start invariant-loop decreases-loop) → Starts (entry (head c)).args.page.now (head c).loop-p.at c.in-Start.p c.in-Start.name_end
 started c = starts c.in-Start.is c.before.next_tag-mark.ensures
 
 -- the element that stands next
 next : (c : tie.After-find-found invariant-loop decreases-loop) → let B = c.before.before.before in
-    Here (entry (head B)).args.page.now (head B).loop.at B.in-Start.p B.in-Start.name_end c.before.before.kind_named-kind.result c.find-found.new.raws
+    Here (entry (head B)).args.page.now (head B).loop-p.at B.in-Start.p B.in-Start.name_end c.before.before.kind_named-kind.result c.find-found.new.raws
 next c =
     let K = c.before.before.kind_named-kind in
     let B = c.before.before.before in
-    let N = (head B).loop.invariant.0.known in
+    let N = (head B).loop-p.invariant.0.known in
     here (started B) N K.result K.ensures.0 (c.find-found.ensures.1 (c.find-found.ensures.0 ∙ not_strange (started B) N K.result K.ensures.0)).1
 
 loop-holds : tie.Need-loop-p-init invariant-loop decreases-loop
@@ -100,14 +100,14 @@ enough c = omega (arith, part_within c.kind_named-kind.result c.kind_named-kind.
 
 -- and they stay so many
 told_in : (c : tie.After-find-found invariant-loop decreases-loop) → length c.find-found.new.raws ≡ 104
-told_in c = c.find-found.auto.raws ∙ (head c.before.before.before).loop.inv.1
+told_in c = c.find-found.auto.raws ∙ (head c.before.before.before).loop-p.invariant.1
 
 find-requires : tie.Need-find-found-requires invariant-loop decreases-loop
 find-requires c κs =
     let K = c.before in
     let B = K.before in
     let S = entry (head B) in
-    ((started B).inner, short S, K.kind_named-kind.ensures.1, S.requires.1, omega (arith, enough K, (head B).loop.invariant.1))
+    ((started B).inner, short S, K.kind_named-kind.ensures.1, S.requires.1, omega (arith, enough K, (head B).loop-p.invariant.1))
 
 slice-aggregate-lay-elem : tie.Need-slice_bounds-lay_elem-end invariant-loop decreases-loop
 slice-aggregate-lay-elem c = search rules
@@ -117,7 +117,7 @@ lay-elem-requires c κs =
     let F = c.before.before.before.before in
     let K = F.before.before in
     let B = K.before in
-    let H = (head B).loop.invariant.0 in
+    let H = (head B).loop-p.invariant.0 in
     let S = entry (head B) in
     let E = started B in
     let N = next F in (
@@ -144,7 +144,7 @@ loop-again-2 c =
     let F = X.before.before.before.before.before in
     let B = F.before.before.before in
     let E = started B in
-    (on_elem (head B).loop.invariant.0 (next F) (omega (arith, E.high, E.inner)) X.lay_elem-made.ensures X.lay_elem-made.auto.tape X.lay_elem-made.auto.side, told_in F)
+    (on_elem (head B).loop-p.invariant.0 (next F) (omega (arith, E.high, E.inner)) X.lay_elem-made.ensures X.lay_elem-made.auto.tape X.lay_elem-made.auto.side, told_in F)
 
 pub lay_page_spec : {M : Type 1} → statement M
 lay_page_spec =

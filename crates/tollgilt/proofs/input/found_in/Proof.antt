@@ -29,7 +29,7 @@ module _ (c : tie.Then-refusal-eq0) where
 
   listed : (found.find_pages-found.result.rows ≤ length found.find_pages-found.last.1.1.1.1.0) × (held_lines (take found.find_pages-found.result.rows found.find_pages-found.last.1.1.1.1.0) ≡ found_in (start found).args.number (start found).args.input.now)
   listed =
-      rows_listed (start found).args.number (start found).args.input.now _ _ _ found.find_pages-found.result _ all-rows (split found).split.ensures.2 found.find_pages-found.ensures
+      rows_listed (start found).args.number (start found).args.input.now _ _ _ found.find_pages-found.result _ all-rows (split found).split-parts.ensures.2 found.find_pages-found.ensures
       (sym c.before.before.before.refusal_number-refusal.ensures ∙ c.before.before.if-refusal-eq0.true)
 
 -- pages that are refused
@@ -42,7 +42,7 @@ module _ (c : tie.After-refusal_place) where
 
   refusal : refusal_lines numbered.refusal_number-refusal.result c.before.refusal_page.result c.refusal_place.result ≡ found_in (start refused).args.number (start refused).args.input.now
   refusal =
-      refusal_listed (start refused).args.number (start refused).args.input.now _ _ _ refused.find_pages-found.result _ all-rows (split refused).split.ensures.2 refused.find_pages-found.ensures
+      refusal_listed (start refused).args.number (start refused).args.input.now _ _ _ refused.find_pages-found.result _ all-rows (split refused).split-parts.ensures.2 refused.find_pages-found.ensures
       _ _ _ numbered.refusal_number-refusal.ensures c.before.refusal_page.ensures c.refusal_place.ensures c.before.before.if-refusal-eq0.false
 
 split-requires : tie.Need-split-parts-requires

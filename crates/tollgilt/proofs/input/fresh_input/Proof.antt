@@ -60,7 +60,7 @@ join-pages-requires : tie.Need-join_pages-length-requires
 join-pages-requires c κs =
     let T = c.before.before.before.before.before.before.before.before.before.before.before in
     let L = T.before.before in
-    joinable (out L) _ _ _ _ L.fresh-pages.result (room L) (split L).before.if1.false rooms (split L).split.ensures.2 L.fresh-pages.ensures T.if-out-lt-SEPARATED.true (room-long L)
+    joinable (out L) _ _ _ _ L.fresh-pages.result (room L) (split L).before.if-out-lt-SEPARATED.false rooms (split L).split-parts.ensures.2 L.fresh-pages.ensures T.if-out-lt-SEPARATED.true (room-long L)
 
 same_length : tie.Need-shape_of-out-then-number-eq0
 same_length c = search rules
@@ -70,13 +70,13 @@ returns-2 c =
     let K = c.before.before.before.before.before.before.before.before.before in
     let T = K.before.before.before.before.before in
     let L = T.before.before in
-    pages_printed (out L) _ _ _ _ L.fresh-pages.result (room L) (split L).before.if1.false rooms (split L).split.ensures.2 L.fresh-pages.ensures T.if-out-lt-SEPARATED.true _ _ K.join-pages.ensures
+    pages_printed (out L) _ _ _ _ L.fresh-pages.result (room L) (split L).before.if-out-lt-SEPARATED.false rooms (split L).split-parts.ensures.2 L.fresh-pages.ensures T.if-out-lt-SEPARATED.true _ _ K.join-pages.ensures
 
 list-refusal-requires : tie.Need-list_refusal-length-requires
 list-refusal-requires c κs =
     let E = c.before.before.before.before.before.before.before.before.before.before in
     let L = E.before.before in
-    refused_fits (out L) _ _ _ _ L.fresh-pages.result (room L) (split L).before.if1.false rooms (split L).split.ensures.2 L.fresh-pages.ensures E.if-out-lt-SEPARATED.false
+    refused_fits (out L) _ _ _ _ L.fresh-pages.result (room L) (split L).before.if-out-lt-SEPARATED.false rooms (split L).split-parts.ensures.2 L.fresh-pages.ensures E.if-out-lt-SEPARATED.false
 
 same-length-2 : tie.Need-shape_of-out
 same-length-2 c = search rules
@@ -86,7 +86,7 @@ returns-3 c =
     let R = c.before.before.before.before.before.before.before.before in
     let E = R.before.before.before.before.before in
     let L = E.before.before in
-    refused_printed (out L) _ _ _ _ L.fresh-pages.result (room L) (split L).before.if1.false rooms (split L).split.ensures.2 L.fresh-pages.ensures E.if-out-lt-SEPARATED.false _ _ R.list-refusal.ensures
+    refused_printed (out L) _ _ _ _ L.fresh-pages.result (room L) (split L).before.if-out-lt-SEPARATED.false rooms (split L).split-parts.ensures.2 L.fresh-pages.ensures E.if-out-lt-SEPARATED.false _ _ R.list-refusal.ensures
 
 pub fresh_input_spec : {M : Type 1} → statement M
 fresh_input_spec =

@@ -78,7 +78,7 @@ loop-again c =
     )
 
 same_length : tie.Need-shape_of-out invariant-loop decreases-loop
-same_length c = let L = c.before in L.loop-i.invariant.1.laying.long ∙ (counting L).count-line.auto.0
+same_length c = let L = c.before in L.loop-i.invariant.1.laying.long ∙ (counting L).count_line-a.auto.out
 
 returns : tie.Need-returns invariant-loop decreases-loop
 returns c =

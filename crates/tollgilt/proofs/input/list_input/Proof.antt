@@ -58,7 +58,7 @@ same_length c = search rules
 returns-2 : tie.Need-returns-then-number-eq0
 returns-2 c =
     let L = c.before.before.before.before.before in
-    plan_printed _ _ _ _ _ _ (roomy (split L).before) (split L).split.ensures.2 L.list_pages-listed.ensures (sym c.before.before.refusal_number-number.ensures ∙ c.before.if-number-eq0.true)
+    plan_printed _ _ _ _ _ _ (roomy (split L).before) (split L).split-parts.ensures.2 L.list_pages-listed.ensures (sym c.before.before.refusal_number-number.ensures ∙ c.before.if-number-eq0.true)
 
 refusal-page-requires : tie.Need-refusal_page-requires
 refusal-page-requires c κs = search rules
@@ -70,7 +70,7 @@ list-refusal-requires : tie.Need-list_refusal-length-requires
 list-refusal-requires c κs =
     let N = c.before.before.before.before in
     let L = N.before.before.before in
-    refusal_fits _ _ _ _ _ _ (roomy (split L).before) (split L).split.ensures.2 L.list_pages-listed.ensures _ _ _ N.refusal_number-number.ensures c.before.before.refusal_page.ensures c.before.refusal_place.ensures c.before.before.before.if-number-eq0.false
+    refusal_fits _ _ _ _ _ _ (roomy (split L).before) (split L).split-parts.ensures.2 L.list_pages-listed.ensures _ _ _ N.refusal_number-number.ensures c.before.before.refusal_page.ensures c.before.refusal_place.ensures c.before.before.before.if-number-eq0.false
 
 same-length-2 : tie.Need-shape_of-out
 same-length-2 c = search rules
@@ -81,7 +81,7 @@ returns-3 c =
     let P = R.before.before.before in
     let N = P.before.before in
     let L = N.before.before.before in
-    refusal_printed _ _ _ _ _ _ (roomy (split L).before) (split L).split.ensures.2 L.list_pages-listed.ensures _ _ _ N.refusal_number-number.ensures P.refusal_page.ensures R.before.before.refusal_place.ensures P.before.if-number-eq0.false _ _ R.list_refusal-length.ensures
+    refusal_printed _ _ _ _ _ _ (roomy (split L).before) (split L).split-parts.ensures.2 L.list_pages-listed.ensures _ _ _ N.refusal_number-number.ensures P.refusal_page.ensures R.before.before.refusal_place.ensures P.before.if-number-eq0.false _ _ R.list_refusal-length.ensures
 
 pub list_input_spec : {M : Type 1} → statement M
 list_input_spec =

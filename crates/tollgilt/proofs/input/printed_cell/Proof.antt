@@ -55,7 +55,7 @@ cell-lines-requires c κs =
     let T = c.before.before in
     let C = T.before.before in
     let a = (start C).args in
-    let (x, y, z) = cell_listed a.row a.field a.which a.catalogue.now a.input.now _ _ _ C.cell_pages-shown.result _ all-bytes (start C).requires.0 (split C).split.ensures.2 C.cell_pages-shown.ensures T.if-refusal-eq0.true in
+    let (x, y, z) = cell_listed a.row a.field a.which a.catalogue.now a.input.now _ _ _ C.cell_pages-shown.result _ all-bytes (start C).requires.0 (split C).split-parts.ensures.2 C.cell_pages-shown.ensures T.if-refusal-eq0.true in
     (x, y, omega (arith, ap length z, short C))
 
 same_length : tie.Need-shape_of-out-then-refusal-eq0
@@ -67,7 +67,7 @@ returns c =
     let T = L.before.before.before in
     let C = T.before.before in
     let a = (start C).args in
-    bytes_as (cell_listed a.row a.field a.which a.catalogue.now a.input.now _ _ _ C.cell_pages-shown.result _ all-bytes (start C).requires.0 (split C).split.ensures.2 C.cell_pages-shown.ensures T.if-refusal-eq0.true).2
+    bytes_as (cell_listed a.row a.field a.which a.catalogue.now a.input.now _ _ _ C.cell_pages-shown.result _ all-bytes (start C).requires.0 (split C).split-parts.ensures.2 C.cell_pages-shown.ensures T.if-refusal-eq0.true).2
     a.out.now _ _ L.cell_lines.ensures
 
 list-refusal-requires : tie.Need-list_refusal-requires
@@ -75,7 +75,7 @@ list-refusal-requires c κs =
     let E = c.before in
     let C = E.before.before in
     let a = (start C).args in
-    omega (arith, ap length (refusal_shown a.row a.field a.which a.catalogue.now a.input.now _ _ _ C.cell_pages-shown.result _ all-bytes (start C).requires.0 (split C).split.ensures.2 C.cell_pages-shown.ensures E.if-refusal-eq0.false), short C)
+    omega (arith, ap length (refusal_shown a.row a.field a.which a.catalogue.now a.input.now _ _ _ C.cell_pages-shown.result _ all-bytes (start C).requires.0 (split C).split-parts.ensures.2 C.cell_pages-shown.ensures E.if-refusal-eq0.false), short C)
 
 same-length-2 : tie.Need-shape_of-out
 same-length-2 c = search rules
@@ -86,7 +86,7 @@ returns-2 c =
     let E = R.before.before in
     let C = E.before.before in
     let a = (start C).args in
-    bytes_as (refusal_shown a.row a.field a.which a.catalogue.now a.input.now _ _ _ C.cell_pages-shown.result _ all-bytes (start C).requires.0 (split C).split.ensures.2 C.cell_pages-shown.ensures E.if-refusal-eq0.false)
+    bytes_as (refusal_shown a.row a.field a.which a.catalogue.now a.input.now _ _ _ C.cell_pages-shown.result _ all-bytes (start C).requires.0 (split C).split-parts.ensures.2 C.cell_pages-shown.ensures E.if-refusal-eq0.false)
     a.out.now _ _ R.list_refusal.ensures
 
 pub printed_cell_spec : {M : Type 1} → statement M

@@ -51,7 +51,7 @@ split-pages-requires c κs = search rules
 returns : tie.Need-returns
 returns c =
     let P = c.before.before in
-    (starts-many P, lens-many P, split_read (input P) (counting P).counted.result _ _ _ _ P.split_pages-k.result (counting P).counted.ensures.1 P.split_pages-k.ensures (omega (arith, starts-ten P)))
+    (starts-many P, lens-many P, split_read (input P) (counting P).counted-n.result _ _ _ _ P.split_pages-k.result (counting P).counted-n.ensures.1 P.split_pages-k.ensures (omega (arith, starts-ten P)))
 
 pub split_spec : {M : Type 1} → statement M
 split_spec =

@@ -86,13 +86,13 @@ lay-tag-requires-2 : tie.Need-lay_tag-o-requires
 lay-tag-requires-2 c κs =
     let T = c.before.before.before.before.before.before in
     let H = from-tag T.before.before in
-    ((from-numbers H).pre.0, search rules, search rules, inside-at H 10 10 (omega arith), going_fits (person-in T.before.before) (author H) (measures H) refl)
+    ((from-numbers H).requires.0, search rules, search rules, inside-at H 10 10 (omega arith), going_fits (person-in T.before.before) (author H) (measures H) refl)
 
 slice-aggregate-lay-measures : tie.Need-slice_bounds-lay_measures-end
 slice-aggregate-lay-measures c = omega (arith, twice (from-tag (from-tag-2 c.before.before.before.before)))
 
 lay-measures-requires : tie.Need-lay_measures-requires
-lay-measures-requires c κs = let T = c.before.before.before.before in let H = from-tag (from-tag-2 T) in ((from-numbers H).pre.0, omega (arith, twice H), inside-at H 20 7 (omega arith), last_fits (author-in T))
+lay-measures-requires c κs = let T = c.before.before.before.before in let H = from-tag (from-tag-2 T) in ((from-numbers H).requires.0, omega (arith, twice H), inside-at H 20 7 (omega arith), last_fits (author-in T))
 
 same_length : tie.Need-shape_of-out
 same_length c = search rules

@@ -83,10 +83,10 @@ within-at c =
     let S = from-people (from-loop L) in
     let a = S.args in
     let r = between I in
-    omega (arith, size_is c, L.loop-k.inv.begins, stretch_within a.text.now a.rows.now a.n L.loop-k.from (get_or a.t6 L.loop-k.k 0) r.0 r.1, all_there a.spelt.now _ S.requires.8)
+    omega (arith, size_is c, L.loop-k.invariant.begins, stretch_within a.text.now a.rows.now a.n L.loop-k.from (get_or a.t6 L.loop-k.k 0) r.0 r.1, all_there a.spelt.now _ S.requires.8)
 
-part-is : (c : tie.After-sizes_between invariant-loop decreases-loop) (e : ℕ) → e ≡ (from-sizes c).before.loop.begin + c.sizes_between.result
-    → take (e - (from-sizes c).before.loop.begin) (drop (from-sizes c).before.loop.begin (from-people (from-loop (from-sizes c).before)).args.spelt.now) ≡ rows_placed (these (from-sizes c))
+part-is : (c : tie.After-sizes_between invariant-loop decreases-loop) (e : ℕ) → e ≡ (from-sizes c).before.loop-k.begin + c.sizes_between.result
+    → take (e - (from-sizes c).before.loop-k.begin) (drop (from-sizes c).before.loop-k.begin (from-people (from-loop (from-sizes c).before)).args.spelt.now) ≡ rows_placed (these (from-sizes c))
 part-is c e q =
     let I = from-sizes c in
     let L = I.before in
@@ -95,7 +95,7 @@ part-is c e q =
     let r = between I in
     let long : e - L.loop-k.begin ≡ length (rows_placed (these I)) = omega (arith, q, size_is c) in
     ap (λ (n : ℕ). take n (drop L.loop-k.begin a.spelt.now)) long
-    ∙ ap (λ (n : ℕ). take (length (rows_placed (these I))) (drop n a.spelt.now)) L.loop-k.inv.begins
+    ∙ ap (λ (n : ℕ). take (length (rows_placed (these I))) (drop n a.spelt.now)) L.loop-k.invariant.begins
     ∙ stretch_bytes a.text.now a.rows.now a.n L.loop-k.from (get_or a.t6 L.loop-k.k 0) r.0 r.1 a.spelt.now S.requires.8
 
 told : (c : tie.After-begins_section-heading invariant-loop decreases-loop) → let I = from-sizes c.before in 1 ≤ length (these I) → c.begins_section-heading.result ≡ headed (these I)
@@ -161,7 +161,7 @@ begins-section-requires : tie.Need-begins_section-heading-requires invariant-loo
 begins-section-requires c κs =
     let I = from-sizes c in
     let r = between I in
-    (r.0, omega (arith, r.1, (from-people (from-loop I.before)).pre.1))
+    (r.0, omega (arith, r.1, (from-people (from-loop I.before)).requires.1))
 
 slice-aggregate-lay-page : tie.Need-slice_bounds-lay_page-end invariant-loop decreases-loop
 slice-aggregate-lay-page c = search rules
@@ -208,7 +208,7 @@ lay-page-requires c κs =
       S.requires.3,
       written_first P.lay_people-p.ensures,
       subst (Opened T.begins_section-heading.result) (sym w) (page_opened (these I) T.begins_section-heading.result (told T)),
-      omega (arith, ap length (laid_as T _ w), next_fits _ _ _ _ _ _ L.loop-k.inv i),
+      omega (arith, ap length (laid_as T _ w), next_fits _ _ _ _ _ _ L.loop-k.invariant i),
     )
 
 sub-lens : tie.Need-overflow_sub-lens invariant-loop decreases-loop
@@ -219,7 +219,7 @@ cast-lens c =
     let E = c.before.before in
     let T = E.before.before.before.before.before in
     let I = from-sizes T.before in
-    omega (arith, E.lay_page-e.ensures.behind, ap length (laid_as T _ (part-is T.before _ refl)), next_short _ _ _ _ _ _ I.before.loop-k.inv I.loop-k-test.taken)
+    omega (arith, E.lay_page-e.ensures.behind, ap length (laid_as T _ (part-is T.before _ refl)), next_short _ _ _ _ _ _ I.before.loop-k.invariant I.loop-k-test.taken)
 
 mul-lens : tie.Need-offset_bounds-lens-k invariant-loop decreases-loop
 mul-lens c = search rules
@@ -239,7 +239,7 @@ loop-again c =
     let T = E.before.before.before.before.before in
     let I = from-sizes T.before in
     let L = I.before in
-    laid_next _ _ _ _ _ _ L.loop-k.inv I.loop-k-test.taken _ _ (wrote_as (laid_as T _ (part-is T.before _ refl)) E.lay_page-e.ensures) refl (ap (λ (x : ℕ). L.loop-k.begin + x) (size_is T.before))
+    laid_next _ _ _ _ _ _ L.loop-k.invariant I.loop-k-test.taken _ _ (wrote_as (laid_as T _ (part-is T.before _ refl)) E.lay_page-e.ensures) refl (ap (λ (x : ℕ). L.loop-k.begin + x) (size_is T.before))
 
 same_length : tie.Need-shape_of-out invariant-loop decreases-loop
 same_length c = c.before.loop-k.invariant.going.laying.long
@@ -247,7 +247,7 @@ same_length c = c.before.loop-k.invariant.going.laying.long
 returns : tie.Need-returns invariant-loop decreases-loop
 returns c =
     let L = c.before in
-    laid_all _ _ _ _ _ _ L.loop-k.invariant c.loop-k-test.false (from-people (from-loop L)).pre.6
+    laid_all _ _ _ _ _ _ L.loop-k.invariant c.loop-k-test.false (from-people (from-loop L)).requires.6
 
 pub lay_pages_spec : {M : Type 1} → statement M
 lay_pages_spec =
