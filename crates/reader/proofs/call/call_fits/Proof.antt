@@ -1,10 +1,10 @@
--- `reader::call::call_fits_lem` meets its contract: the count of pages, then each of them.
+-- `reader::call::call_fits` meets its contract: the count of pages, then each of them.
 -- Assumes nothing.
 use mathlib.Core.Path.{◌∙◌}
 use Rattle.reader.proofs.CallFacts.{no_page, many_pages, few_pages}
 use borrow.Author.Rules.{rules}
-use Rattle.reader.proofs.call.call_fits_lem.Statement.{statement}
-use Rattle.reader.proofs.call.call_fits_lem.Tie as tie
+use Rattle.reader.proofs.call.call_fits.Statement.{statement}
+use Rattle.reader.proofs.call.call_fits.Tie as tie
 
 returns : tie.Need-returns-then-n-lt1
 returns c = let a = c.before.before.before.before.args in no_page a.buffer.now a.starts.now a.lens.now c.if-n-lt1.true

@@ -36,15 +36,15 @@ loop-again : tie.Need-loop-i-preserved invariant-loop decreases-loop
 loop-again c =
     let L = c.before.before in
     let a = L.before.args in
-    let room : L.loop-i.i < length a.t1 = omega arith in
-    (search rules, c.with_number-mask.ensures ∙ number_passed a.t1 L.loop-i.i L.loop-i.mask room L.loop-i.invariant.1)
+    let room : L.loop-i.i < length a.nos = omega arith in
+    (search rules, c.with_number-mask.ensures ∙ number_passed a.nos L.loop-i.i L.loop-i.mask room L.loop-i.invariant.1)
 
 returns : tie.Need-returns invariant-loop decreases-loop
 returns c =
     let L = c.before in
     let a = L.before.args in
     let end : L.loop-i.i ≡ a.n = omega arith in
-    present_told (take a.n a.t1) L.loop-i.mask (L.loop-i.invariant.1 ∙ ap (λ (j : ℕ). mask_of (picked (λ k. among k (take j a.t1)) 1 9)) end)
+    present_told (take a.n a.nos) L.loop-i.mask (L.loop-i.invariant.1 ∙ ap (λ (j : ℕ). mask_of (picked (λ k. among k (take j a.nos)) 1 9)) end)
 
 pub have_spec : {M : Type 1} → statement M
 have_spec =

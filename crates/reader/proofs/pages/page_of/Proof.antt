@@ -25,8 +25,8 @@ returns : tie.Need-returns-then-nos-i invariant-loop decreases-loop
 returns c =
     let L = c.before.before in
     let a = L.before.args in
-    let nine : a.n ≤ length a.t1 = omega arith in
-    place_told a.k (take a.n a.t1) L.loop-i.i (L.loop-i.invariant.1 ∙ place_hit a.t1 a.n nine a.k L.loop-i.i (search rules) c.if-nos-i.true)
+    let nine : a.n ≤ length a.nos = omega arith in
+    place_told a.k (take a.n a.nos) L.loop-i.i (L.loop-i.invariant.1 ∙ place_hit a.nos a.n nine a.k L.loop-i.i (search rules) c.if-nos-i.true)
 
 add-i : tie.Need-overflow_add-i invariant-loop decreases-loop
 add-i c = search rules
@@ -38,16 +38,16 @@ loop-again : tie.Need-loop-i-preserved invariant-loop decreases-loop
 loop-again c =
     let L = c.before.before in
     let a = L.before.args in
-    let nine : a.n ≤ length a.t1 = omega arith in
-    (search rules, L.loop-i.invariant.1 ∙ place_miss a.t1 a.n nine a.k L.loop-i.i (search rules) c.if-nos-i.false)
+    let nine : a.n ≤ length a.nos = omega arith in
+    (search rules, L.loop-i.invariant.1 ∙ place_miss a.nos a.n nine a.k L.loop-i.i (search rules) c.if-nos-i.false)
 
 returns-2 : tie.Need-returns invariant-loop decreases-loop
 returns-2 c =
     let L = c.before in
     let a = L.before.args in
-    let nine : a.n ≤ length a.t1 = omega arith in
+    let nine : a.n ≤ length a.nos = omega arith in
     let end : L.loop-i.i ≡ a.n = omega arith in
-    place_told a.k (take a.n a.t1) a.n (L.loop-i.invariant.1 ∙ (place_done a.t1 a.n nine a.k L.loop-i.i (search rules) ∙ end))
+    place_told a.k (take a.n a.nos) a.n (L.loop-i.invariant.1 ∙ (place_done a.nos a.n nine a.k L.loop-i.i (search rules) ∙ end))
 
 pub page_of_spec : {M : Type 1} → statement M
 page_of_spec =

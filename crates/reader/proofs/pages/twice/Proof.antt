@@ -31,9 +31,9 @@ returns c =
     let P = c.before in
     let L = P.before.before in
     let a = L.before.args in
-    let nine : a.n ≤ length a.t1 = omega arith in
-    let at = place_known (get_or a.t1 L.loop-i.i 0) (take L.loop-i.i a.t1) P.page_of.result P.page_of.ensures in
-    again_told (take a.n a.t1) (L.loop-i.i + 1) (passed_old a.t1 a.n L.loop-i.i P.page_of.result nine L.loop-i.invariant.1 (search rules) at (search rules))
+    let nine : a.n ≤ length a.nos = omega arith in
+    let at = place_known (get_or a.nos L.loop-i.i 0) (take L.loop-i.i a.nos) P.page_of.result P.page_of.ensures in
+    again_told (take a.n a.nos) (L.loop-i.i + 1) (passed_old a.nos a.n L.loop-i.i P.page_of.result nine L.loop-i.invariant.1 (search rules) at (search rules))
 
 add-i : tie.Need-overflow_add-i invariant-loop decreases-loop
 add-i c = search rules
@@ -46,16 +46,16 @@ loop-again c =
     let P = c.before in
     let L = P.before.before in
     let a = L.before.args in
-    let nine : a.n ≤ length a.t1 = omega arith in
-    let at = place_known (get_or a.t1 L.loop-i.i 0) (take L.loop-i.i a.t1) P.page_of.result P.page_of.ensures in
-    (search rules, passed_new a.t1 a.n L.loop-i.i P.page_of.result nine L.loop-i.invariant.1 (search rules) at (search rules))
+    let nine : a.n ≤ length a.nos = omega arith in
+    let at = place_known (get_or a.nos L.loop-i.i 0) (take L.loop-i.i a.nos) P.page_of.result P.page_of.ensures in
+    (search rules, passed_new a.nos a.n L.loop-i.i P.page_of.result nine L.loop-i.invariant.1 (search rules) at (search rules))
 
 returns-2 : tie.Need-returns invariant-loop decreases-loop
 returns-2 c =
     let L = c.before in
     let a = L.before.args in
-    let nine : a.n ≤ length a.t1 = omega arith in
-    again_told (take a.n a.t1) 0 (passed_all (take a.n a.t1) L.loop-i.i L.loop-i.invariant.1 (omega (arith, first_n a.t1 a.n nine)))
+    let nine : a.n ≤ length a.nos = omega arith in
+    again_told (take a.n a.nos) 0 (passed_all (take a.n a.nos) L.loop-i.i L.loop-i.invariant.1 (omega (arith, first_n a.nos a.n nine)))
 
 pub twice_spec : {M : Type 1} → statement M
 twice_spec =

@@ -63,27 +63,27 @@ module _ (N : tie.After-next_tag-mark invariant-loop decreases-loop) (m : Mark) 
 -- an end tag
 module _ (c : tie.In-End invariant-loop decreases-loop) where
   abbrev ended_by : tie.After-next_tag-mark invariant-loop decreases-loop
-  ended_by = c.before.before.before
+  ended_by = c.before
 
   abbrev end-at : ℕ
-  end-at = c.before.before.in-Start.i
+  end-at = c.in-End.i
 
   end-order : Outer ended_by.before.loop-i.at (length (page_at ended_by.before)) (End end-at)
-  end-order = order ended_by (End end-at) c.before.before.in-Start.is
+  end-order = order ended_by (End end-at) c.in-End.is
 
 -- a start tag: where it stands, where its name ends
 module _ (c : tie.In-Start invariant-loop decreases-loop) where
   abbrev started-by : tie.After-next_tag-mark invariant-loop decreases-loop
-  started-by = c.before.before.before
+  started-by = c.before
 
   abbrev start-at : ℕ
-  start-at = c.before.before.in-Start.i
+  start-at = c.in-Start.i
 
   abbrev name-end : ℕ
-  name-end = c.before.before.in-Start.name_end
+  name-end = c.in-Start.name_end
 
   start-order : Outer started-by.before.loop-i.at (length (page_at started-by.before)) (Start start-at name-end)
-  start-order = order started-by (Start start-at name-end) c.before.before.in-Start.is
+  start-order = order started-by (Start start-at name-end) c.in-Start.is
 
 -- a start tag once its element is known: what stands in it, and the state behind it
 module _ (c : tie.After-kind_under-kind invariant-loop decreases-loop) where
@@ -168,10 +168,10 @@ close-requires : tie.Need-close-st-requires invariant-loop decreases-loop
 close-requires c κs = search rules
 
 add_at : tie.Need-overflow_add-at invariant-loop decreases-loop
-add_at c = omega (arith, (end-order c.before.before).1)
+add_at c = omega (arith, (end-order c.before).1)
 
 loop-less : tie.Need-loop-i-smaller-in-End invariant-loop decreases-loop
-loop-less c = let h = end-order c.before.before in omega (arith, h.0, h.1)
+loop-less c = let h = end-order c.before in omega (arith, h.0, h.1)
 
 loop-again : tie.Need-loop-i-preserved-in-End invariant-loop decreases-loop
 loop-again c =
@@ -198,16 +198,16 @@ cast-place c =
     omega (arith, h.1, h.2, short (started-by.before M).before)
 
 add-kind-under : tie.Need-overflow_add-i invariant-loop decreases-loop
-add-kind-under c = let h = start-order c.before in omega (arith, h.1, h.2)
+add-kind-under c = let h = start-order c in omega (arith, h.1, h.2)
 
 sub-kind-under : tie.Need-slice_bounds-kind_under-count invariant-loop decreases-loop
-sub-kind-under c = let h = start-order c.before in omega (arith, h.1, h.2)
+sub-kind-under c = let h = start-order c in omega (arith, h.1, h.2)
 
 part-kind-under-start : tie.Need-slice_bounds-kind_under-start invariant-loop decreases-loop
-part-kind-under-start c = let h = start-order c.before in omega (arith, h.1, h.2)
+part-kind-under-start c = let h = start-order c in omega (arith, h.1, h.2)
 
 part-kind-under-end : tie.Need-slice_bounds-kind_under-end invariant-loop decreases-loop
-part-kind-under-end c = let h = start-order c.before in omega (arith, h.1, h.2)
+part-kind-under-end c = let h = start-order c in omega (arith, h.1, h.2)
 
 kind-under-requires : tie.Need-kind_under-kind-requires invariant-loop decreases-loop
 kind-under-requires c κs = search rules
@@ -219,7 +219,7 @@ same-length-2 : tie.Need-shape_of-scratch-then-bars invariant-loop decreases-loo
 same-length-2 c = search rules
 
 returns-2 : tie.Need-returns-then-bars invariant-loop decreases-loop
-returns-2 c = let K = c.before.before.before.before in five_at _ (start-at (at_mark.before K)) (turn K.before ∙ rw (sym c.before.bars.ensures ∙ c.if1.true))
+returns-2 c = let K = c.before.before.before.before in five_at _ (start-at (at_mark K)) (turn K ∙ rw (sym c.before.bars.ensures ∙ c.if1.true))
 
 slice-aggregate-find : tie.Need-slice_bounds-find-end invariant-loop decreases-loop
 slice-aggregate-find c = search rules
@@ -227,8 +227,8 @@ slice-aggregate-find c = search rules
 find-requires : tie.Need-find-found-requires invariant-loop decreases-loop
 find-requires c κs =
     let K = c.before.before.before.before in
-    let L = at-loop K.before.before.before in
-    ((start-order (at_mark.before K)).2, short L, K.kind_under-kind.ensures.1, L.loop-i.invariant.table, omega (arith, enough K.before.before.before, L.loop-i.invariant.lent))
+    let L = at-loop K in
+    ((start-order (at_mark K)).2, short L, K.kind_under-kind.ensures.1, L.loop-i.invariant.table, omega (arith, enough K, L.loop-i.invariant.lent))
 
 same-length-3 : tie.Need-shape_of-scratch-then-found invariant-loop decreases-loop
 same-length-3 c = search rules
@@ -238,11 +238,11 @@ returns-3 c =
     let E = c.before.before.before.before.before.before.before.before.before in
     let X = E.before in
     let K = X.before.before in
-    five_at _ (start-at (at_mark.before K)) (turn K ∙ rw (sym X.before.bars.ensures ∙ X.if1.false, sym E.find.ensures.0 ∙ c.if2.true))
+    five_at _ (start-at (at_mark K)) (turn K ∙ rw (sym X.before.bars.ensures ∙ X.if1.false, sym E.find.ensures.0 ∙ c.if2.true))
 
 -- the raw values that were found stand in as many numbers
 told_in : (E : tie.After-find-found invariant-loop decreases-loop) → length E.find-found.new.raws ≡ 104
-told_in E = E.find-found.auto.raws ∙ (at-loop E.before.before.before.before.before.before.before.before).loop-i.invariant.lent
+told_in E = E.find-found.auto.raws ∙ (at-loop E.before.before.before.before.before).loop-i.invariant.lent
 
 slice-aggregate-flaw-of : tie.Need-slice_bounds-flaw_of-end invariant-loop decreases-loop
 slice-aggregate-flaw-of c = search rules
@@ -279,11 +279,11 @@ known_at c = c.before.before.before.before.before.before.before.before.before.be
 add-at-2 : tie.Need-overflow_add-at-in-Start invariant-loop decreases-loop
 add-at-2 c =
     let K = known_at c in
-    let h = start-order (at_mark.before K) in
-    omega (arith, h.1, h.2, short (at-loop K.before.before.before))
+    let h = start-order (at_mark K) in
+    omega (arith, h.1, h.2, short (at-loop K))
 
 loop-less-2 : tie.Need-loop-i-smaller invariant-loop decreases-loop
-loop-less-2 c = let h = start-order (at_mark.before (known_at c)) in omega (arith, h.0, h.1, h.2)
+loop-less-2 c = let h = start-order (at_mark (known_at c)) in omega (arith, h.0, h.1, h.2)
 
 loop-again-2 : tie.Need-loop-i-preserved invariant-loop decreases-loop
 loop-again-2 c =
@@ -293,10 +293,10 @@ loop-again-2 c =
     let E = Y.before.before in
     let X = E.before.before.before in
     let K = X.before.before in
-    let M = at_mark K.before.before.before in
-    let L = at-loop K.before.before.before in
-    let l = (within K.before.before.before).attrs in
-    let h = start-order M.before in
+    let M = at_mark K in
+    let L = at-loop K in
+    let l = (within K).attrs in
+    let h = start-order M in
     let (shut, tells) = E.find-found.ensures.1 Y.if-found.false in
     record {
       inner = omega (arith, h.1, h.2);
@@ -305,9 +305,9 @@ loop-again-2 c =
       table = L.loop-i.invariant.table;
       bounds = L.loop-i.invariant.bounds;
       sound = c.enter-st.ensures.1;
-      right = turn K.before.before.before ∙ rw (sym X.before.bars.ensures ∙ X.if-bars.false, sym E.find-found.ensures.0 ∙ Y.if-found.false)
-          (ap (λ (s : St). judge_fold s (tags_at (page_at L) (start-at M.before + 1)))
-          (ap (behind K.before.before.before) (sym shut) ∙ sym (c.enter-st.ensures.0 l (F.flaw_of-number.ensures l tells) (W.needs_w-needs.ensures l tells))));
+      right = turn K ∙ rw (sym X.before.bars.ensures ∙ X.if-bars.false, sym E.find-found.ensures.0 ∙ Y.if-found.false)
+          (ap (λ (s : St). judge_fold s (tags_at (page_at L) (start-at M + 1)))
+          (ap (behind K) (sym shut) ∙ sym (c.enter-st.ensures.0 l (F.flaw_of-number.ensures l tells) (W.needs_w-needs.ensures l tells))));
     }
 
 pub faults_of_spec : {M : Type 1} → statement M

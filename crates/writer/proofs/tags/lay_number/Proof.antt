@@ -42,7 +42,7 @@ lay-requires : tie.Need-lay-a-requires
 lay-requires c κs = let E = c.before.before.before in going_fits (going_start (fit E)) (bytes " p=\"") (decimal E.before.before.args.n ++ 34 ∷ []) refl
 
 spell-requires : tie.Need-spell-b-requires
-spell-requires c κs = let L = c.before.before.before.before in going_fits (name_in L) (decimal L.before.before.before.before.before.args.n) (34 ∷ []) refl
+spell-requires c κs = let L = c.before.before.before in going_fits (name_in L) (decimal L.before.before.before.before.before.before.args.n) (34 ∷ []) refl
 
 slice-write-out : tie.Need-bounds-out-b
 slice-write-out c = byte_fits (digits_in c.before.before)

@@ -1,11 +1,11 @@
--- `writer::writing::call_fits_lem` meets its contract: each test is one part of it.
+-- `writer::writing::call_fits` meets its contract: each test is one part of it.
 -- Assumes nothing.
 use mathlib.Core.Path.{sym, ◌∙◌}
 use borrow.Author.Tests.{le-leb, lt-leb, not-true, not-false}
 use borrow.Author.Rules.{rules}
 use Rattle.writer.specs.Promise.{call_fits}
-use Rattle.writer.proofs.writing.call_fits_lem.Statement.{statement}
-use Rattle.writer.proofs.writing.call_fits_lem.Tie as tie
+use Rattle.writer.proofs.writing.call_fits.Statement.{statement}
+use Rattle.writer.proofs.writing.call_fits.Tie as tie
 
 pages-fit-requires : tie.Need-pages_fit-requires
 pages-fit-requires c κs = search rules

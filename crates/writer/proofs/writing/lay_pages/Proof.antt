@@ -61,9 +61,9 @@ people-within P =
 
 -- the rows of the next page
 abbrev these : tie.In-loop-k invariant-loop decreases-loop → List Row
-these I = let L = I.before in let a = (from-people (from-loop L)).args in rows_between a.text.now a.rows.now L.loop-k.from (get_or a.t6 L.loop-k.k 0)
+these I = let L = I.before in let a = (from-people (from-loop L)).args in rows_between a.text.now a.rows.now L.loop-k.from (get_or a.ends L.loop-k.k 0)
 
-between : (I : tie.In-loop-k invariant-loop decreases-loop) → let L = I.before in let a = (from-people (from-loop L)).args in (L.loop-k.from ≤ get_or a.t6 L.loop-k.k 0) × (get_or a.t6 L.loop-k.k 0 ≤ a.n)
+between : (I : tie.In-loop-k invariant-loop decreases-loop) → let L = I.before in let a = (from-people (from-loop L)).args in (L.loop-k.from ≤ get_or a.ends L.loop-k.k 0) × (get_or a.ends L.loop-k.k 0 ≤ a.n)
 between I = next_rows _ _ _ _ _ _ I.before.loop-k.invariant I.loop-k-test.true
 
 -- what they take among the rows as they are spelled
@@ -74,16 +74,16 @@ size_is c =
     let S = from-people (from-loop L) in
     let a = S.args in
     let r = between I in
-    c.sizes_between.ensures ∙ stretch_sizes a.text.now a.rows.now a.n L.loop-k.from (get_or a.t6 L.loop-k.k 0) r.0 r.1 a.t5 S.requires.7
+    c.sizes_between.ensures ∙ stretch_sizes a.text.now a.rows.now a.n L.loop-k.from (get_or a.ends L.loop-k.k 0) r.0 r.1 a.measures S.requires.7
 
-within-at : (c : tie.After-sizes_between invariant-loop decreases-loop) → let L = (from-sizes c).before in L.loop.begin + c.sizes_between.result ≤ length (from-people (from-loop L)).args.spelt.now
+within-at : (c : tie.After-sizes_between invariant-loop decreases-loop) → let L = (from-sizes c).before in L.loop-k.begin + c.sizes_between.result ≤ length (from-people (from-loop L)).args.spelt.now
 within-at c =
     let I = from-sizes c in
     let L = I.before in
     let S = from-people (from-loop L) in
     let a = S.args in
     let r = between I in
-    omega (arith, size_is c, L.loop-k.invariant.begins, stretch_within a.text.now a.rows.now a.n L.loop-k.from (get_or a.t6 L.loop-k.k 0) r.0 r.1, all_there a.spelt.now _ S.requires.8)
+    omega (arith, size_is c, L.loop-k.invariant.begins, stretch_within a.text.now a.rows.now a.n L.loop-k.from (get_or a.ends L.loop-k.k 0) r.0 r.1, all_there a.spelt.now _ S.requires.8)
 
 part-is : (c : tie.After-sizes_between invariant-loop decreases-loop) (e : ℕ) → e ≡ (from-sizes c).before.loop-k.begin + c.sizes_between.result
     → take (e - (from-sizes c).before.loop-k.begin) (drop (from-sizes c).before.loop-k.begin (from-people (from-loop (from-sizes c).before)).args.spelt.now) ≡ rows_placed (these (from-sizes c))
@@ -96,18 +96,18 @@ part-is c e q =
     let long : e - L.loop-k.begin ≡ length (rows_placed (these I)) = omega (arith, q, size_is c) in
     ap (λ (n : ℕ). take n (drop L.loop-k.begin a.spelt.now)) long
     ∙ ap (λ (n : ℕ). take (length (rows_placed (these I))) (drop n a.spelt.now)) L.loop-k.invariant.begins
-    ∙ stretch_bytes a.text.now a.rows.now a.n L.loop-k.from (get_or a.t6 L.loop-k.k 0) r.0 r.1 a.spelt.now S.requires.8
+    ∙ stretch_bytes a.text.now a.rows.now a.n L.loop-k.from (get_or a.ends L.loop-k.k 0) r.0 r.1 a.spelt.now S.requires.8
 
 told : (c : tie.After-begins_section-heading invariant-loop decreases-loop) → let I = from-sizes c.before in 1 ≤ length (these I) → c.begins_section-heading.result ≡ headed (these I)
 told c =
     let I = from-sizes c.before in
     let L = I.before in
     let a = (from-people (from-loop L)).args in
-    first-told a.text.now a.rows.now L.loop-k.from (get_or a.t6 L.loop-k.k 0) c.begins_section-heading.result c.begins_section-heading.ensures
+    first-told a.text.now a.rows.now L.loop-k.from (get_or a.ends L.loop-k.k 0) c.begins_section-heading.result c.begins_section-heading.ensures
 
 -- the page as it is laid
 laid_as : (c : tie.After-begins_section-heading invariant-loop decreases-loop) (w : List ℕ) → w ≡ rows_placed (these (from-sizes c.before)) → let L = (from-sizes c.before).before in let a = (from-people (from-loop L)).args in let h = show_head a.text.now a.plan in
-    page h (these (from-sizes c.before)) (L.loop.k + 1) a.z ≡ head_text h (L.loop.k + 1) a.z ++ rows_page c.begins_section-heading.result w
+    page h (these (from-sizes c.before)) (L.loop-k.k + 1) a.z ≡ head_text h (L.loop-k.k + 1) a.z ++ rows_page c.begins_section-heading.result w
 laid_as c w e =
     let I = from-sizes c.before in
     let L = I.before in
@@ -135,8 +135,8 @@ loop-holds : tie.Need-loop-k-init invariant-loop decreases-loop
 loop-holds c =
     let S = from-people c.before in
     let a = S.args in
-    let l : length a.t6 ≡ 9 = search rules in
-    laid_start (show_head a.text.now a.plan) a.text.now a.rows.now a.t6 a.n a.z a.out.now S.requires.3 l S.requires.4 S.requires.5 S.requires.6
+    let l : length a.ends ≡ 9 = search rules in
+    laid_start (show_head a.text.now a.plan) a.text.now a.rows.now a.ends a.n a.z a.out.now S.requires.3 l S.requires.4 S.requires.5 S.requires.6
 
 mul-to : tie.Need-offset_bounds-ends-k invariant-loop decreases-loop
 mul-to c = search rules
@@ -199,7 +199,7 @@ lay-page-requires c κs =
     let P = from-loop L in
     let K = P.before.before.before in
     let S = from-people P in
-    let i = I.loop-k-test.taken in
+    let i = I.loop-k-test.true in
     let w = part-is Z _ refl in
     let e : L.loop-k.k + 1 ≤ 9 = omega (arith, i, S.requires.3) in (
       K.keys-keys.ensures,
@@ -219,7 +219,7 @@ cast-lens c =
     let E = c.before.before in
     let T = E.before.before.before.before.before in
     let I = from-sizes T.before in
-    omega (arith, E.lay_page-e.ensures.behind, ap length (laid_as T _ (part-is T.before _ refl)), next_short _ _ _ _ _ _ I.before.loop-k.invariant I.loop-k-test.taken)
+    omega (arith, E.lay_page-e.ensures.behind, ap length (laid_as T _ (part-is T.before _ refl)), next_short _ _ _ _ _ _ I.before.loop-k.invariant I.loop-k-test.true)
 
 mul-lens : tie.Need-offset_bounds-lens-k invariant-loop decreases-loop
 mul-lens c = search rules
@@ -239,7 +239,7 @@ loop-again c =
     let T = E.before.before.before.before.before in
     let I = from-sizes T.before in
     let L = I.before in
-    laid_next _ _ _ _ _ _ L.loop-k.invariant I.loop-k-test.taken _ _ (wrote_as (laid_as T _ (part-is T.before _ refl)) E.lay_page-e.ensures) refl (ap (λ (x : ℕ). L.loop-k.begin + x) (size_is T.before))
+    laid_next _ _ _ _ _ _ L.loop-k.invariant I.loop-k-test.true _ _ (wrote_as (laid_as T _ (part-is T.before _ refl)) E.lay_page-e.ensures) refl (ap (λ (x : ℕ). L.loop-k.begin + x) (size_is T.before))
 
 same_length : tie.Need-shape_of-out invariant-loop decreases-loop
 same_length c = c.before.loop-k.invariant.going.laying.long

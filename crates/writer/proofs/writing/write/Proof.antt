@@ -75,7 +75,7 @@ start₅ c = start₄ c.before.before.before.before
 
 -- the call is well made
 fits-at : (c : tie.Else-not-call_fits) → let s = start₁ c in call_fits (plan s).rows (rows_lent (length (rows s))) (length (out s)) ≡ true
-fits-at c = sym c.before.call_fits_lem.ensures ∙ c.if-not-call_fits.false
+fits-at c = sym c.before.call_fits.ensures ∙ c.if-not-call_fits.false
 
 -- the head is sound
 head_at : (c : tie.Else-not-head_sound) → let s = start₂ c in head_sound (text s) (plan s) ≡ true
@@ -132,7 +132,7 @@ returns : tie.Need-returns-then-not-call_fits
 returns c =
     let T = c.before.before in
     let s = T.before.before.before.before.before in
-    refuse s 1 0 bad_call (no_call (out s) (plan s) (rows s) (text s) (sym T.call_fits_lem.ensures ∙ c.before.if-not-call_fits.true)) (refl, refl) _ (ap numbers_of c.refusal.ensures.0) c.refusal.ensures.1.0 c.refusal.ensures.1.1
+    refuse s 1 0 bad_call (no_call (out s) (plan s) (rows s) (text s) (sym T.call_fits.ensures ∙ c.before.if-not-call_fits.true)) (refl, refl) _ (ap numbers_of c.refusal.ensures.0) c.refusal.ensures.1.0 c.refusal.ensures.1.1
 
 head-sound-requires : tie.Need-head_sound-requires
 head-sound-requires c κs = search rules
