@@ -32,44 +32,44 @@ returns c = λ e. no (sym e)
 plan-fits-requires : tie.Need-plan_fits-requires
 plan-fits-requires c κs =
     let S = entry c.before in
-    let n = count_by S.args.kind 1 6 c.before.if-clashes.true counts.0 in
+    let n = count_by S.args.kind 1 6 c.if-kind-eq-MP.true counts.0 in
     (omega (arith, S.requires.1, n), S.requires.2, subst (λ x. Spans S.args.page.now (length S.args.side.now) x S.args.tape.now S.args.base) n S.requires.3)
 
 returns-2 : tie.Need-returns-then-kind-eq-MP
-returns-2 c = λ e. fits_at _ 1 c.before.before.if-clashes.true (fits_numbered.0 (c.plan-fits.ensures e))
+returns-2 c = λ e. fits_at _ 1 c.before.if-kind-eq-MP.true (fits_numbered.0 (c.plan_fits.ensures e))
 
 person-fits-requires : tie.Need-person_fits-requires
 person-fits-requires c κs =
     let S = entry c.before.before in
-    let n = count_by S.args.kind 2 8 c.before.before.if-clashes.true counts.1 in
+    let n = count_by S.args.kind 2 8 c.if-kind-eq-P.true counts.1 in
     (omega (arith, S.requires.1, n), S.requires.2)
 
 returns-3 : tie.Need-returns-then-kind-eq-P
-returns-3 c = λ e. fits_at _ 2 c.before.before.before.if-clashes.true (fits_numbered.1 (fits_p (sym c.person-fits.ensures ∙ e)))
+returns-3 c = λ e. fits_at _ 2 c.before.if-kind-eq-P.true (fits_numbered.1 (fits_p (sym c.person_fits.ensures ∙ e)))
 
 author-fits-requires : tie.Need-author_fits-requires
 author-fits-requires c κs =
     let S = entry c.before.before.before in
-    let n = count_by S.args.kind 3 10 c.before.before.before.if-clashes.true counts.2 in
+    let n = count_by S.args.kind 3 10 c.if-kind-eq-A.true counts.2 in
     (omega (arith, S.requires.1, n), S.requires.2)
 
 returns-4 : tie.Need-returns-then-kind-eq-A
 returns-4 c = λ e.
-    let E = c.before.before.before.before.before.before.before.before in
+    let E = c.before.before.before.before in
     let S = entry E in
-    let k = c.before.before.before.before.if-clashes.true in
-    fits_at _ 3 k (fits_numbered.2 (subst (λ x. clash_at (kind_at x) S.args.tape.now S.args.base ≡ false) k (apart E)) (sym c.author-fits.ensures ∙ e))
+    let k = c.before.if-kind-eq-A.true in
+    fits_at _ 3 k (fits_numbered.2 (subst (λ x. clash_at (kind_at x) S.args.tape.now S.args.base ≡ false) k (apart E)) (sym c.author_fits.ensures ∙ e))
 
 is-there-requires : tie.Need-is_there-requires
 is-there-requires c κs =
     let S = entry c.before.before.before.before in
-    (omega (arith, S.requires.1, one_field S.args.kind c.before.before.before.before.if-clashes.true S.requires.0), S.requires.2)
+    (omega (arith, S.requires.1, one_field S.args.kind c.if-kind-gt-M.true S.requires.0), S.requires.2)
 
 returns-5 : tie.Need-returns-then-kind-gt-M
-returns-5 c = λ e. let S = entry c.before.before.before.before.before in fits_last _ c.before.before.before.before.before.if-clashes.true S.requires.0 (sym c.is-there.ensures ∙ e)
+returns-5 c = λ e. let S = entry c.before.before.before.before.before in fits_last _ c.before.if-kind-gt-M.true S.requires.0 (sym c.is_there.ensures ∙ e)
 
 returns-6 : tie.Need-returns
-returns-6 c = λ e. fits_rest _ (apart c.before.before.before.before) c.before.before.before.before.if-clashes.false c.before.before.before.before.if-clashes.false c.before.before.before.before.if-clashes.false c.before.before.before.before.if-clashes.false
+returns-6 c = λ e. fits_rest _ (apart c.before.before.before.before) c.before.before.before.if-kind-eq-MP.false c.before.before.if-kind-eq-P.false c.before.if-kind-eq-A.false c.if-kind-gt-M.false
 
 pub tag_fits_spec : {M : Type 1} → statement M
 tag_fits_spec =

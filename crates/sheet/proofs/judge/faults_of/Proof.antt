@@ -156,10 +156,10 @@ same_length c = search rules
 returns : tie.Need-returns-in-Nothing invariant-loop decreases-loop
 returns c =
     let T = c.before.before in
-    let N = T.before.before in
+    let N = T.before in
     let L = N.before in
     c.told.ensures
-    ∙ ap verdict_by (c.before.finish.ensures ∙ sym (L.loop-i.invariant.right ∙ on_nothing (st_of L.loop-i.st) _ [] (shape N Nothing T.enum_told.given.1)))
+    ∙ ap verdict_by (c.before.finish.ensures ∙ sym (L.loop-i.invariant.right ∙ on_nothing (st_of L.loop-i.st) _ [] (shape N Nothing T.in-Nothing.is)))
 
 enum-known-mark : tie.Need-enum_known-mark invariant-loop decreases-loop
 enum-known-mark c = search rules
@@ -175,17 +175,17 @@ loop-less c = let h = end-order c.before in omega (arith, h.0, h.1)
 
 loop-again : tie.Need-loop-i-preserved-in-End invariant-loop decreases-loop
 loop-again c =
-    let M = c.before.before in
+    let M = c.before in
     let L = (ended_by M).before in
     record {
       inner = omega (arith, (end-order M).1);
-      long = L.loop.inv.long;
-      lent = L.loop.inv.lent;
-      table = L.loop.inv.table;
-      bounds = L.loop.inv.bounds;
-      sound = c.close.ensures.1;
-      right = L.loop.inv.right ∙ on_end (st_of L.loop.st) _ _ (shape (ended_by M) (End (end-at M)) M.mark.given.1)
-          ∙ ap (λ (s : St). judge_fold s (tags_at (page_at L) (end-at M + 1))) (sym c.close.ensures.0);
+      long = L.loop-i.invariant.long;
+      lent = L.loop-i.invariant.lent;
+      table = L.loop-i.invariant.table;
+      bounds = L.loop-i.invariant.bounds;
+      sound = c.close-st.ensures.1;
+      right = L.loop-i.invariant.right ∙ on_end (st_of L.loop-i.st) _ _ (shape (ended_by M) (End (end-at M)) M.in-End.is)
+          ∙ ap (λ (s : St). judge_fold s (tags_at (page_at L) (end-at M + 1))) (sym c.close-st.ensures.0);
     }
 
 enum-known-mark-2 : tie.Need-enum_known-mark-in-Start-1 invariant-loop decreases-loop
@@ -193,9 +193,9 @@ enum-known-mark-2 c = search rules
 
 cast-place : tie.Need-overflow_cast-place invariant-loop decreases-loop
 cast-place c =
-    let M = c.before in
+    let M = c in
     let h = start-order M in
-    omega (arith, h.1, h.2, short (started-by.before M).before)
+    omega (arith, h.1, h.2, short (started-by M).before)
 
 add-kind-under : tie.Need-overflow_add-i invariant-loop decreases-loop
 add-kind-under c = let h = start-order c in omega (arith, h.1, h.2)
@@ -219,7 +219,7 @@ same-length-2 : tie.Need-shape_of-scratch-then-bars invariant-loop decreases-loo
 same-length-2 c = search rules
 
 returns-2 : tie.Need-returns-then-bars invariant-loop decreases-loop
-returns-2 c = let K = c.before.before.before.before in five_at _ (start-at (at_mark K)) (turn K ∙ rw (sym c.before.bars.ensures ∙ c.if1.true))
+returns-2 c = let K = c.before.before in five_at _ (start-at (at_mark K)) (turn K ∙ rw (sym c.before.bars.ensures ∙ c.if-bars.true))
 
 slice-aggregate-find : tie.Need-slice_bounds-find-end invariant-loop decreases-loop
 slice-aggregate-find c = search rules
@@ -235,10 +235,10 @@ same-length-3 c = search rules
 
 returns-3 : tie.Need-returns-then-found invariant-loop decreases-loop
 returns-3 c =
-    let E = c.before.before.before.before.before.before.before.before.before in
-    let X = E.before in
+    let E = c.before.before in
+    let X = E.before.before.before in
     let K = X.before.before in
-    five_at _ (start-at (at_mark K)) (turn K ∙ rw (sym X.before.bars.ensures ∙ X.if1.false, sym E.find.ensures.0 ∙ c.if2.true))
+    five_at _ (start-at (at_mark K)) (turn K ∙ rw (sym X.before.bars.ensures ∙ X.if-bars.false, sym E.find-found.ensures.0 ∙ c.if-found.true))
 
 -- the raw values that were found stand in as many numbers
 told_in : (E : tie.After-find-found invariant-loop decreases-loop) → length E.find-found.new.raws ≡ 104
@@ -249,28 +249,28 @@ slice-aggregate-flaw-of c = search rules
 
 flaw-of-requires : tie.Need-flaw_of-number-requires invariant-loop decreases-loop
 flaw-of-requires c κs =
-    let E = c.before.before.before.before.before.before.before.before.before.before.before.before.before in
+    let E = c.before.before.before.before.before in
     let K = E.before.before.before.before.before in
     let L = at-loop K in
-    (roomy L, K.kind-under.ensures.1, omega (arith, enough K, told_in E), L.loop-i.invariant.bounds)
+    (roomy L, K.kind_under-kind.ensures.1, omega (arith, enough K, told_in E), L.loop-i.invariant.bounds)
 
 slice-aggregate-needs-w : tie.Need-slice_bounds-needs_w-end invariant-loop decreases-loop
 slice-aggregate-needs-w c = search rules
 
 needs-w-requires : tie.Need-needs_w-needs-requires invariant-loop decreases-loop
 needs-w-requires c κs =
-    let F = c.before.before.before.before.before.before.before.before.before.before.before.before.before.before.before.before.before in
+    let F = c.before.before.before.before in
     let E = F.before.before.before.before.before.before in
     let K = E.before.before.before.before.before in
     let L = at-loop K in
-    (short L, omega (arith, roomy L, F.flaw-of.auto.1.1.1.1.0), K.kind-under.ensures.1, omega (arith, enough K, told_in E))
+    (short L, omega (arith, roomy L, F.flaw_of-number.auto.scratch), K.kind_under-kind.ensures.1, omega (arith, enough K, told_in E))
 
 enter-requires : tie.Need-enter-st-requires invariant-loop decreases-loop
 enter-requires c κs =
-    let F = c.before.before.before.before.before.before.before.before.before.before.before.before.before.before.before.before.before.before.before.before.before.before.before in
+    let F = c.before.before.before.before.before.before.before in
     let X = F.before.before.before.before.before.before.before.before.before in
     let K = X.before.before in
-    (K.kind-under.ensures.1, (at-loop K).loop-i.invariant.sound, sym X.before.bars.ensures ∙ X.if1.false)
+    (K.kind_under-kind.ensures.1, (at-loop K).loop-i.invariant.sound, sym X.before.bars.ensures ∙ X.if-bars.false)
 
 -- where the element of the start tag that is left behind is known
 abbrev known_at : tie.After-enter-st invariant-loop decreases-loop → tie.After-kind_under-kind invariant-loop decreases-loop

@@ -85,7 +85,7 @@ returns : tie.Need-returns-then-refusal-eq0
 returns c =
     let H = c.before.before in
     let T = H.before.before.before in
-    bytes_as (listed T).1 (start (found T)).args.out.now _ _ H.held-lines.ensures
+    bytes_as (listed T).1 (start (found T)).args.out.now _ _ H.held_lines.ensures
 
 refusal-page-requires : tie.Need-refusal_page-requires
 refusal-page-requires c κs = search rules
@@ -95,7 +95,7 @@ refusal-place-requires c κs = search rules
 
 list-refusal-requires : tie.Need-list_refusal-requires
 list-refusal-requires c κs =
-    let P = c.before.before in
+    let P = c.before in
     let S = start (refused P) in
     omega (arith, S.requires, ap length (refusal P), found_in_short S.args.number S.args.input.now)
 
@@ -104,9 +104,9 @@ same-length-2 c = search rules
 
 returns-2 : tie.Need-returns
 returns-2 c =
-    let R = c.before.before.before.before.before.before in
+    let R = c.before.before in
     let P = R.before.before in
-    bytes_as (refusal P) (start (refused P)).args.out.now _ _ R.list-refusal.ensures
+    bytes_as (refusal P) (start (refused P)).args.out.now _ _ R.list_refusal.ensures
 
 pub found_in_spec : {M : Type 1} → statement M
 found_in_spec =

@@ -30,7 +30,7 @@ rooms : length (replicate {A = ℕ} 12600 0) ≡ 12600
 rooms = length-replicate {A = ℕ} 12600 0
 
 returns : tie.Need-returns-then-out-lt-SEPARATED
-returns c = let s = c.before.before.before in none_printed s.args.out.now (fresh_no_room s.args.out.now s.args.input.now c.if1.true)
+returns c = let s = c.before.before.before in none_printed s.args.out.now (fresh_no_room s.args.out.now s.args.input.now c.if-out-lt-SEPARATED.true)
 
 split-requires : tie.Need-split-parts-requires
 split-requires c κs = search rules
@@ -58,35 +58,35 @@ slice-aggregate-join-pages c = search rules
 
 join-pages-requires : tie.Need-join_pages-length-requires
 join-pages-requires c κs =
-    let T = c.before.before.before.before.before.before.before.before.before.before.before in
+    let T = c.before.before in
     let L = T.before.before in
-    joinable (out L) _ _ _ _ L.fresh-pages.result (room L) (split L).before.if-out-lt-SEPARATED.false rooms (split L).split-parts.ensures.2 L.fresh-pages.ensures T.if-out-lt-SEPARATED.true (room-long L)
+    joinable (out L) _ _ _ _ L.fresh_pages-fresh.result (room L) (split L).before.if-out-lt-SEPARATED.false rooms (split L).split-parts.ensures.2 L.fresh_pages-fresh.ensures T.if-number-eq0.true (room-long L)
 
 same_length : tie.Need-shape_of-out-then-number-eq0
 same_length c = search rules
 
 returns-2 : tie.Need-returns-then-number-eq0
 returns-2 c =
-    let K = c.before.before.before.before.before.before.before.before.before in
-    let T = K.before.before.before.before.before in
+    let K = c.before.before in
+    let T = K.before.before.before in
     let L = T.before.before in
-    pages_printed (out L) _ _ _ _ L.fresh-pages.result (room L) (split L).before.if-out-lt-SEPARATED.false rooms (split L).split-parts.ensures.2 L.fresh-pages.ensures T.if-out-lt-SEPARATED.true _ _ K.join-pages.ensures
+    pages_printed (out L) _ _ _ _ L.fresh_pages-fresh.result (room L) (split L).before.if-out-lt-SEPARATED.false rooms (split L).split-parts.ensures.2 L.fresh_pages-fresh.ensures T.if-number-eq0.true _ _ K.join_pages-length.ensures
 
 list-refusal-requires : tie.Need-list_refusal-length-requires
 list-refusal-requires c κs =
-    let E = c.before.before.before.before.before.before.before.before.before.before in
+    let E = c.before in
     let L = E.before.before in
-    refused_fits (out L) _ _ _ _ L.fresh-pages.result (room L) (split L).before.if-out-lt-SEPARATED.false rooms (split L).split-parts.ensures.2 L.fresh-pages.ensures E.if-out-lt-SEPARATED.false
+    refused_fits (out L) _ _ _ _ L.fresh_pages-fresh.result (room L) (split L).before.if-out-lt-SEPARATED.false rooms (split L).split-parts.ensures.2 L.fresh_pages-fresh.ensures E.if-number-eq0.false
 
 same-length-2 : tie.Need-shape_of-out
 same-length-2 c = search rules
 
 returns-3 : tie.Need-returns
 returns-3 c =
-    let R = c.before.before.before.before.before.before.before.before in
-    let E = R.before.before.before.before.before in
+    let R = c.before.before in
+    let E = R.before.before in
     let L = E.before.before in
-    refused_printed (out L) _ _ _ _ L.fresh-pages.result (room L) (split L).before.if-out-lt-SEPARATED.false rooms (split L).split-parts.ensures.2 L.fresh-pages.ensures E.if-out-lt-SEPARATED.false _ _ R.list-refusal.ensures
+    refused_printed (out L) _ _ _ _ L.fresh_pages-fresh.result (room L) (split L).before.if-out-lt-SEPARATED.false rooms (split L).split-parts.ensures.2 L.fresh_pages-fresh.ensures E.if-number-eq0.false _ _ R.list_refusal-length.ensures
 
 pub fresh_input_spec : {M : Type 1} → statement M
 fresh_input_spec =
