@@ -109,7 +109,7 @@ module _ (w s s' : List ℕ) (m m' : ℕ) (e : take m s' ≡ take m s) (up : m �
   -- elements lie in order
   pub lies_up : (t : List ℕ) (i j : ℕ) (es : List Elem) → Lies w s m t i j es → i ≤ j
   lies_up t i j [] L = omega arith
-  lies_up t i j (x ∷ es) L = let h = lies_up t _ j es L.1 in omega arith
+  lies_up t i j (x ∷ es) L = let h = lies_up t (i + header + 2 * length (fields_of x.kind)) j es L.1 in omega arith
 
   pub lies_more : (t u : List ℕ) (i j : ℕ) (es : List Elem) → Agree t u i j → Lies w s m t i j es → Lies w s' m' u i j es
   lies_more t u i j [] h L = L

@@ -103,7 +103,7 @@ add-lay-slot-2 c =
     let I = c.before.before.before in
     let C = I.before.before in
     let S = entry I.before in
-    omega (arith, S.requires.4, C.count_of-count.ensures.0, I.loop-j-test.true, S.good)
+    omega (arith, S.requires.4, C.count_of-count.ensures.0, I.loop-j-test.true, S.well_formed)
 
 lay-slot-requires : tie.Need-lay_slot-m-requires invariant-loop decreases-loop
 lay-slot-requires c κs =
