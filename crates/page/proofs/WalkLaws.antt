@@ -54,7 +54,7 @@ walk_page {w} T = record { elems = elems_of w; lies = T.taped.lies; within = T.t
 
 lies_up : (w x : List ℕ) (m : ℕ) (t : List ℕ) (i j : ℕ) (es : List Elem) → Lies w x m t i j es → i ≤ j
 lies_up w x m t i j [] L = omega arith
-lies_up w x m t i j (e ∷ es) L = let h = lies_up w x m t _ j es L.1 in omega arith
+lies_up w x m t i j (e ∷ es) L = let h = lies_up w x m t (i + header + 2 * length (fields_of e.kind)) j es L.1 in omega arith
 
 -- an element stands next: k is its number, from next on lie the others
 pub record Step (w x t : List ℕ) (i j : ℕ) (es : List Elem) : Type 0 where
@@ -104,7 +104,7 @@ elem_eq a b c d u v p q r = rw (p, q, r)
 pub lies_same : (w x : List ℕ) (m : ℕ) (t : List ℕ) (i j : ℕ) (es fs : List Elem) → Lies w x m t i j es → Lies w x m t i j fs → es ≡ fs
 lies_same w x m t i j [] [] L K = refl
 lies_same w x m t i j [] (f ∷ fs) L K = absurd (omega (arith, L, lies_up w x m t _ j fs K.1))
-lies_same w x m t i j (e ∷ es) [] L K = absurd (omega (arith, K, lies_up w x m t _ j es L.1))
+lies_same w x m t i j (e ∷ es) [] L K = absurd (omega (arith, K, lies_up w x m t (i + header + 2 * length (fields_of e.kind)) j es L.1))
 lies_same w x m t i j (e ∷ es) (f ∷ fs) L K =
     let k : e.kind ≡ f.kind = sym (kind_back e.kind) ∙ (ap kind_at (sym L.0.kind_is ∙ K.0.kind_is) ∙ kind_back f.kind) in
     let p : e.place ≡ f.place = sym L.0.place_is ∙ K.0.place_is in
@@ -257,7 +257,7 @@ medication_next {w} {x} {t} {f} {j} {es} N F q =
 pub ws_twice : (w x t : List ℕ) (i j : ℕ) (es : List Elem) → Lies w x (length x) t i j es → length (concat (ws_by es)) ≡ 2 * length (ws_by es)
 unfolding ws_by fields_of
 ws_twice w x t i j [] L = refl
-ws_twice w x t i j (e ∷ es) L = go (is e.kind W) refl (ws_twice w x t _ j es L.1)
+ws_twice w x t i j (e ∷ es) L = go (is e.kind W) refl (ws_twice w x t (i + header + 2 * length (fields_of e.kind)) j es L.1)
   where
     go : (b : Bool) → is e.kind W ≡ b → length (concat (ws_by es)) ≡ 2 * length (ws_by es) → length (concat (if b (e.slots ∷ ws_by es) [])) ≡ 2 * length (if b (e.slots ∷ ws_by es) [])
     go true q h = omega (arith, length-append e.slots (concat (ws_by es)), two q, h)

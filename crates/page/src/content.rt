@@ -1,7 +1,7 @@
 // One page, as its tape tells it: its head, its number and its count, its rows. A page comes here once it is taped, and so has no fault.
 ghost use Rattle.std.specs.Prelude.{◌≡◌, ◌&&◌, List, [], eqb, ◌+◌, ◌*◌, ◌≤◌, ◌<◌, length, get_or};
 ghost use Rattle.paper.specs.Lists.{same, concat, number};
-ghost use Rattle.paper.specs.Fields.{MP, M};
+ghost use Rattle.paper.specs.Fields as Kinds;
 ghost use Rattle.paper.specs.Plan.{same_head};
 ghost use Rattle.paper.specs.Judging.{or};
 ghost use Rattle.paper.specs.Layout.{head_values, row_values, rows_values};
@@ -84,8 +84,8 @@ pub fn find_head<'a>(page: &'a [u8], side: &'a [u8], tape: &'a [u16], i: usize, 
 
 // The number that field `k` of MP shows, a field of at most eight digits; 0 if it is absent.
 fn mp_number<'a>(page: &'a [u8], side: &'a [u8], tape: &'a [u16], mp: usize, k: usize) -> u32
-    requires { PartAt page.now side.now tape.now MP mp × Fit (tags_at page.now 0) × (k < 6) × ((field_at k).most ≤ 8) }
-    ensures { result ≡ number 0 (get_or (part_from MP (tags_at page.now 0)) k []) }
+    requires { PartAt page.now side.now tape.now Kinds.MP mp × Fit (tags_at page.now 0) × (k < 6) × ((field_at k).most ≤ 8) }
+    ensures { result ≡ number 0 (get_or (part_from Kinds.MP (tags_at page.now 0)) k []) }
 {
     number_in(page, side, tape, mp + 2 * k)
 }
@@ -102,7 +102,7 @@ fn or_one(n: u32) -> u32
 
 // The number of a page.
 pub fn number_of<'a>(page: &'a [u8], side: &'a [u8], tape: &'a [u16], mp: usize) -> u32
-    requires { PartAt page.now side.now tape.now MP mp × Fit (tags_at page.now 0) }
+    requires { PartAt page.now side.now tape.now Kinds.MP mp × Fit (tags_at page.now 0) }
     ensures { result ≡ (content_of (tags_at page.now 0)).no }
 {
     let a = mp_number(page, side, tape, mp, 4);
@@ -111,7 +111,7 @@ pub fn number_of<'a>(page: &'a [u8], side: &'a [u8], tape: &'a [u16], mp: usize)
 
 // How many pages there are, as the page says.
 pub fn count_said<'a>(page: &'a [u8], side: &'a [u8], tape: &'a [u16], mp: usize) -> u32
-    requires { PartAt page.now side.now tape.now MP mp × Fit (tags_at page.now 0) }
+    requires { PartAt page.now side.now tape.now Kinds.MP mp × Fit (tags_at page.now 0) }
     ensures { result ≡ (content_of (tags_at page.now 0)).of }
 {
     let z = mp_number(page, side, tape, mp, 5);
@@ -126,8 +126,8 @@ fn language<'a>(
     mp: usize,
     german: &'a [u8],
 ) -> &'a [u8]
-    requires { PartAt page.now side.now tape.now MP mp }
-    ensures { result.now ≡ or (get_or (part_from MP (tags_at page.now 0)) 3 []) german.now }
+    requires { PartAt page.now side.now tape.now Kinds.MP mp }
+    ensures { result.now ≡ or (get_or (part_from Kinds.MP (tags_at page.now 0)) 3 []) german.now }
 {
     let s = mp + 6;
     let v = value_of(page, side, tape[s] as usize, tape[s + 1] as usize);
@@ -221,9 +221,9 @@ fn same_language<'a>(
     y: usize,
     german: &'a [u8],
 ) -> bool
-    requires { PartAt one.now side.now tape.now MP x × PartAt two.now side.now tape.now MP y }
-    ensures { result ≡ same (or (get_or (part_from MP (tags_at one.now 0)) 3 []) german.now)
-        (or (get_or (part_from MP (tags_at two.now 0)) 3 []) german.now) }
+    requires { PartAt one.now side.now tape.now Kinds.MP x × PartAt two.now side.now tape.now Kinds.MP y }
+    ensures { result ≡ same (or (get_or (part_from Kinds.MP (tags_at one.now 0)) 3 []) german.now)
+        (or (get_or (part_from Kinds.MP (tags_at two.now 0)) 3 []) german.now) }
 {
     let l = language(one, side, tape, x, german);
     let m = language(two, side, tape, y, german);
@@ -396,9 +396,9 @@ fn lay_medication<'a>(
     requires { (base + 28 ≤ length tape.now) × Spans page.now (length side.now) 14 tape.now base × (length (get_or (values_at page.now side.now 14 tape.now base) 0 []) ≤ 8)
         × Walk page.now side.now tape.now next j × ((r + 1) * stride ≤ length rows.old)
         × ((es : List Elem) → Lies page.now side.now (length side.now) tape.now next j es
-        → (length (ws_by es) ≤ 3) × Room (row_values (row_from M (values_at page.now side.now 14 tape.now base) (ws_by es))) text.old n) }
+        → (length (ws_by es) ≤ 3) × Room (row_values (row_from Kinds.M (values_at page.now side.now 14 tape.now base) (ws_by es))) text.old n) }
     ensures { (es : List Elem) → Lies page.now side.now (length side.now) tape.now next j es
-        → LaysRow (row_from M (values_at page.now side.now 14 tape.now base) (ws_by es)) text.old text.new n result
+        → LaysRow (row_from Kinds.M (values_at page.now side.now 14 tape.now base) (ws_by es)) text.old text.new n result
         rows.old rows.new r }
 {
     let p = number_in(page, side, tape, base);

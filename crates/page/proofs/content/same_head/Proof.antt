@@ -79,7 +79,7 @@ same-language-requires : tie.Need-same_language-requires
 same-language-requires c κs = (c.before.before.before.before.before.before.before.before.before.before.before.before.before.requires.2.mp_at, c.before.before.before.before.before.before.before.before.before.before.before.before.before.requires.0.mp_at)
 
 returns-3 : tie.Need-returns-then-not-same_language
-returns-3 c = sym (other_lang (new c.before.before.before.before.before.before.before.before.before.before.before.before.before.before.before) (old c.before.before.before.before.before.before.before.before.before.before.before.before.before.before.before) (patch-same c.before.before.before.before.before.before.before.before) (sym (ident-same c.before.before.before.before.before) ∙ not_false _ c.before.before.before.before.if-not-same_slots.false) (sym (lang-found c.before) ∙ c.if-not-same_language.true))
+returns-3 c = sym (other_lang (new c.before.before.before.before.before.before.before.before.before.before.before.before.before.before.before) (old c.before.before.before.before.before.before.before.before.before.before.before.before.before.before.before) (patch-same c.before.before.before.before.before.before.before.before) (sym (ident-same c.before.before.before.before.before) ∙ c.before.before.before.before.if-not-same_slots.false) (sym (lang-found c.before) ∙ c.if-not-same_language.true))
 
 count-of-requires : tie.Need-count_of-requires
 count-of-requires c κs = search rules
@@ -89,7 +89,7 @@ unfolding kind_at
 same-slots-requires-2 c κs = let e = c.count_of.ensures.0 in let P = c.before.before.before.before.before.before.before.before.before.before.before.before.before.before.before.before.requires.2.person_at in let Q = c.before.before.before.before.before.before.before.before.before.before.before.before.before.before.before.before.requires.0.person_at in (part_within P _ e, part_within Q _ e, part_lie P _ e, part_lie Q _ e)
 
 returns-4 : tie.Need-returns-then-not-same_slots-2
-returns-4 c = sym (other_person (new c.before.before.before.before.before.before.before.before.before.before.before.before.before.before.before.before.before.before) (old c.before.before.before.before.before.before.before.before.before.before.before.before.before.before.before.before.before.before) (patch-same c.before.before.before.before.before.before.before.before.before.before.before) (sym (ident-same c.before.before.before.before.before.before.before.before) ∙ not_false _ c.before.before.before.before.before.before.before.if-not-same_slots.false) (sym (lang-found c.before.before.before.before) ∙ not_false _ c.before.before.before.if-not-same_language.false) (sym (person-found c.before) ∙ c.if-not-same_slots-2.true))
+returns-4 c = sym (other_person (new c.before.before.before.before.before.before.before.before.before.before.before.before.before.before.before.before.before.before) (old c.before.before.before.before.before.before.before.before.before.before.before.before.before.before.before.before.before.before) (patch-same c.before.before.before.before.before.before.before.before.before.before.before) (sym (ident-same c.before.before.before.before.before.before.before.before) ∙ c.before.before.before.before.before.before.before.if-not-same_slots.false) (sym (lang-found c.before.before.before.before) ∙ c.before.before.before.if-not-same_language.false) (sym (person-found c.before) ∙ c.if-not-same_slots-2.true))
 
 count-of-requires-2 : tie.Need-count_of-requires-2
 count-of-requires-2 c κs = search rules
@@ -99,7 +99,7 @@ unfolding kind_at
 same-slots-requires-3 c κs = let e = c.count_of-2.ensures.0 in let P = c.before.before.before.before.before.before.before.before.before.before.before.before.before.before.before.before.before.before.before.requires.2.author_at in let Q = c.before.before.before.before.before.before.before.before.before.before.before.before.before.before.before.before.before.before.before.requires.0.author_at in (part_within P _ e, part_within Q _ e, part_lie P _ e, part_lie Q _ e)
 
 returns-5 : tie.Need-returns-then-not-same_slots-3
-returns-5 c = sym (other_author (new c.before.before.before.before.before.before.before.before.before.before.before.before.before.before.before.before.before.before.before.before.before) (old c.before.before.before.before.before.before.before.before.before.before.before.before.before.before.before.before.before.before.before.before.before) (patch-same c.before.before.before.before.before.before.before.before.before.before.before.before.before.before) (sym (ident-same c.before.before.before.before.before.before.before.before.before.before.before) ∙ not_false _ c.before.before.before.before.before.before.before.before.before.before.if-not-same_slots.false) (sym (lang-found c.before.before.before.before.before.before.before) ∙ not_false _ c.before.before.before.before.before.before.if-not-same_language.false) (sym (person-found c.before.before.before.before) ∙ not_false _ c.before.before.before.if-not-same_slots-2.false) (sym (author-found c.before) ∙ c.if-not-same_slots-3.true))
+returns-5 c = sym (other_author (new c.before.before.before.before.before.before.before.before.before.before.before.before.before.before.before.before.before.before.before.before.before) (old c.before.before.before.before.before.before.before.before.before.before.before.before.before.before.before.before.before.before.before.before.before) (patch-same c.before.before.before.before.before.before.before.before.before.before.before.before.before.before) (sym (ident-same c.before.before.before.before.before.before.before.before.before.before.before) ∙ c.before.before.before.before.before.before.before.before.before.before.if-not-same_slots.false) (sym (lang-found c.before.before.before.before.before.before.before) ∙ c.before.before.before.before.before.before.if-not-same_language.false) (sym (person-found c.before.before.before.before) ∙ c.before.before.before.if-not-same_slots-2.false) (sym (author-found c.before) ∙ c.if-not-same_slots-3.true))
 
 count-of-requires-3 : tie.Need-count_of-requires-3
 count-of-requires-3 c κs = search rules
@@ -109,7 +109,7 @@ unfolding kind_at
 same-slots-requires-4 c κs = let e = c.count_of-3.ensures.0 in let P = c.before.before.before.before.before.before.before.before.before.before.before.before.before.before.before.before.before.before.before.before.before.before.requires.2.measures_at in let Q = c.before.before.before.before.before.before.before.before.before.before.before.before.before.before.before.before.before.before.before.before.before.before.requires.0.measures_at in (part_within P _ e, part_within Q _ e, part_lie P _ e, part_lie Q _ e)
 
 returns-6 : tie.Need-returns
-returns-6 c = measures-found c ∙ sym (by_measures (new c.before.before.before.before.before.before.before.before.before.before.before.before.before.before.before.before.before.before.before.before.before.before.before) (old c.before.before.before.before.before.before.before.before.before.before.before.before.before.before.before.before.before.before.before.before.before.before.before) (patch-same c.before.before.before.before.before.before.before.before.before.before.before.before.before.before.before.before) (sym (ident-same c.before.before.before.before.before.before.before.before.before.before.before.before.before) ∙ not_false _ c.before.before.before.before.before.before.before.before.before.before.before.before.if-not-same_slots.false) (sym (lang-found c.before.before.before.before.before.before.before.before.before) ∙ not_false _ c.before.before.before.before.before.before.before.before.if-not-same_language.false) (sym (person-found c.before.before.before.before.before.before) ∙ not_false _ c.before.before.before.before.before.if-not-same_slots-2.false) (sym (author-found c.before.before.before) ∙ not_false _ c.before.before.if-not-same_slots-3.false))
+returns-6 c = measures-found c ∙ sym (by_measures (new c.before.before.before.before.before.before.before.before.before.before.before.before.before.before.before.before.before.before.before.before.before.before.before) (old c.before.before.before.before.before.before.before.before.before.before.before.before.before.before.before.before.before.before.before.before.before.before.before) (patch-same c.before.before.before.before.before.before.before.before.before.before.before.before.before.before.before.before) (sym (ident-same c.before.before.before.before.before.before.before.before.before.before.before.before.before) ∙ c.before.before.before.before.before.before.before.before.before.before.before.before.if-not-same_slots.false) (sym (lang-found c.before.before.before.before.before.before.before.before.before) ∙ c.before.before.before.before.before.before.before.before.if-not-same_language.false) (sym (person-found c.before.before.before.before.before.before) ∙ c.before.before.before.before.before.if-not-same_slots-2.false) (sym (author-found c.before.before.before) ∙ c.before.before.if-not-same_slots-3.false))
 
 pub same_head_spec : {M : Type 1} → statement M
 same_head_spec =

@@ -127,7 +127,7 @@ loop-again c =
       q-is = omega (arith, v.q-is);
       p-lie = rw z (spans_next _ S.args.side.now _ _ _ _ (left at-loop-test) v.p-lie).1;
       q-lie = rw z (spans_next _ S.args.side.now _ _ _ _ (left at-loop-test) v.q-lie).1;
-      so = rw z (v.so ∙ slots_same _ _ _ _ _ _ _ (left at-loop-test) (sym (found c.before) ∙ not_false _ c.if-not-spells.false));
+      so = rw z (v.so ∙ slots_same _ _ _ _ _ _ _ (left at-loop-test) (sym (found c.before) ∙ c.if-not-spells.false));
     }
 
 returns-2 : tie.Need-returns invariant-loop decreases-loop

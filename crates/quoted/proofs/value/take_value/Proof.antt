@@ -29,7 +29,7 @@ returns c = c.before.before.odd_value.ensures
 
 is-absent-requires : tie.Need-is_absent-requires
 is-absent-requires c κs =
-    let P = c.before.before.plain_value-plain.ensures (c).if1.false in
+    let P = c.before.before.plain_value-plain.ensures c.if-plain-eq0.false in
     (P.within.0, omega (arith, P.within.1, P.within.2), c.before.before.before.before.before.requires.4, c.before.before.before.before.before.requires.5.limits_are)
 
 returns-2 : tie.Need-returns-then-is_absent
