@@ -31,7 +31,7 @@ use Rattle.page.proofs.ContentLaws.{row_given, row_none, placed_at, behind}
 use Rattle.page.proofs.RowLaws.{row_laid, package_short}
 use Rattle.page.proofs.HeadLaws.{short_kept, mp_kept, ident_is, lang_is}
 use Rattle.sheet.proofs.PageLaws.{page_fit}
-use Rattle.tape.specs.Tape.{Elem, elem, starts_of, elems_of, part_by, ws_by, rows_by, shown_in, values_at, Span, Spans, ElemAt, Lies, Taped}
+use Rattle.tape.specs.Tape.{Elem, elem, header, starts_of, elems_of, part_by, ws_by, rows_by, shown_in, values_at, Span, Spans, ElemAt, Lies, Taped}
 use Rattle.tape.proofs.TapeLaws.{part_by_lem, ws_by_lem, rows_by_lem}
 use Rattle.page.specs.Walking.{Blank, Read, FitBy, Walk, PartAt}
 use Rattle.page.proofs.SlotLaws.{values_long, values_at_lem, span_at_lem}
@@ -110,7 +110,7 @@ lies_same w x m t i j (e ∷ es) (f ∷ fs) L K =
     let p : e.place ≡ f.place = sym L.0.place_is ∙ K.0.place_is in
     let s : e.slots ≡ f.slots = sym L.0.slots_are ∙ (ap (λ (q : Kind). values_at w x (length (fields_of q)) t (i + 3)) k ∙ K.0.slots_are) in
     let y : e ≡ f = elem_eq e.kind f.kind e.place f.place e.slots f.slots k p s in
-    let r : es ≡ fs = lies_same w x m t _ j es fs L.1 (subst (λ (q : Kind). Lies w x m t (i + 3 + 2 * length (fields_of q)) j fs) (sym k) K.1) in
+    let r : es ≡ fs = lies_same w x m t (i + header + 2 * length (fields_of e.kind)) j es fs L.1 (subst (λ (q : Kind). Lies w x m t (i + 3 + 2 * length (fields_of q)) j fs) (sym k) K.1) in
     rw (y, r)
 
 -- ---- the parts of the head

@@ -1,6 +1,7 @@
 // Whether the fields of an element on the tape go together.
 ghost use Rattle.std.specs.Prelude.{◌≡◌, true, false, ◌&&◌, List, ℕ, ◌+◌, ◌*◌, ◌≤◌, ◌<◌, length, get_or};
-ghost use Rattle.paper.specs.Fields.{MP, fields_of};
+ghost use Rattle.paper.specs.Fields as Kinds;
+ghost use Rattle.paper.specs.Fields.{fields_of};
 ghost use Rattle.paper.specs.Grammar.{Attr};
 ghost use Rattle.paper.specs.Judging.{slots_of};
 ghost use Rattle.fields.specs.Places.{kind_at, kind_count};
@@ -43,7 +44,7 @@ fn first_byte(page: &[u8], side: &[u8], tape: &[u16], s: usize) -> u8
 // Whether v and U of MP are there, and a and z are a page of so many, or neither is there.
 fn plan_fits(page: &[u8], tape: &[u16], base: usize, side: &[u8]) -> bool
     requires { (base + 12 ≤ length tape.now) × (length tape.now < 65536) × Spans page.now (length side.now) 6 tape.now base }
-    ensures { result ≡ true → Spec.Fits page.now side.now MP tape.now base }
+    ensures { result ≡ true → Spec.Fits page.now side.now Kinds.MP tape.now base }
 {
     if !is_there(tape, base, 0) {
         return false;

@@ -46,7 +46,7 @@ cast-kind : tie.Need-overflow_cast-kind invariant-loop decreases-loop
 cast-kind c = let N = next c.before in omega (arith, N.known)
 
 add-next : tie.Need-overflow_add-next invariant-loop decreases-loop
-add-next c = let N = next c.before in omega (arith, N.wide, N.high, c.before.before.before.before.before.before.well-formed)
+add-next c = let N = next c.before in omega (arith, N.wide, N.high, c.before.before.before.before.before.before.well_formed)
 
 mul_next : tie.Need-offset_bounds-tape-f-in-loop-f invariant-loop decreases-loop
 mul_next c = search rules
@@ -58,7 +58,7 @@ cast-next : tie.Need-overflow_cast-next invariant-loop decreases-loop
 cast-next c = omega (arith, c.shared_slice_known-in-loop-f-2-1.given (c.before.before.before.loop-f.f + 2))
 
 add-gives-row : tie.Need-overflow_add-f invariant-loop decreases-loop
-add-gives-row c = let N = next c.before.before in omega (arith, N.wide, N.high, c.before.before.before.before.before.before.before.well-formed)
+add-gives-row c = let N = next c.before.before in omega (arith, N.wide, N.high, c.before.before.before.before.before.before.before.well_formed)
 
 gives-row-requires : tie.Need-gives_row-requires invariant-loop decreases-loop
 gives-row-requires c κs = let N = next c.before.before in (N.known, omega (arith, N.wide, N.high, c.before.before.before.before.before.before.before.requires.taped.within.0), N.lie)

@@ -77,7 +77,7 @@ cast-kind : tie.Need-overflow_cast-kind invariant-loop decreases-loop
 cast-kind c = let N = next c.before in omega (arith, N.known)
 
 add-next : tie.Need-overflow_add-next invariant-loop decreases-loop
-add-next c = let N = next c.before in omega (arith, N.wide, N.high, c.before.before.before.before.before.before.before.before.well-formed)
+add-next c = let N = next c.before in omega (arith, N.wide, N.high, c.before.before.before.before.before.before.before.before.well_formed)
 
 mul_next : tie.Need-offset_bounds-tape-f-in-loop-f invariant-loop decreases-loop
 mul_next c = search rules
@@ -89,7 +89,7 @@ cast-next : tie.Need-overflow_cast-next invariant-loop decreases-loop
 cast-next c = omega (arith, c.shared_slice_known-in-loop-f-2-1.given (c.before.before.before.loop-f.f + 2))
 
 add-lay-medication : tie.Need-overflow_add-f invariant-loop decreases-loop
-add-lay-medication c = let N = next c.before.before.before in omega (arith, N.wide, N.high, c.before.before.before.before.before.before.before.before.before.before.well-formed)
+add-lay-medication c = let N = next c.before.before.before in omega (arith, N.wide, N.high, c.before.before.before.before.before.before.before.before.before.before.well_formed)
 
 lay-medication-requires : tie.Need-lay_medication-m-requires invariant-loop decreases-loop
 lay-medication-requires c κs =
@@ -112,7 +112,7 @@ add-k : tie.Need-overflow_add-k invariant-loop decreases-loop
 add-k c =
     let S = c.before.before.before.before.before.before.before.before.before.before.before.before.before.before.before.before.before in
     let s = row_space (med-filling c.before.before.before.before.before.before.before) S.requires.1 S.requires.2 in
-    omega (arith, s, c.before.before.before.before.before.before.before.before.before.before.before.loop-f.invariant.filling.rows_so.long, S.well-formed)
+    omega (arith, s, c.before.before.before.before.before.before.before.before.before.before.before.loop-f.invariant.filling.rows_so.long, S.well_formed)
 
 loop-less : tie.Need-loop-f-smaller-then-kind-eq-M invariant-loop decreases-loop
 loop-less c =
@@ -131,13 +131,13 @@ loop-again c =
     }
 
 add-gives-row : tie.Need-overflow_add-f-else-kind-eq-M invariant-loop decreases-loop
-add-gives-row c = let N = next c.before.before.before in omega (arith, N.wide, N.high, c.before.before.before.before.before.before.before.before.before.before.well-formed)
+add-gives-row c = let N = next c.before.before.before in omega (arith, N.wide, N.high, c.before.before.before.before.before.before.before.before.before.before.well_formed)
 
 gives-row-requires : tie.Need-gives_row-requires invariant-loop decreases-loop
 gives-row-requires c κs = let N = next c.before.before.before in (N.known, omega (arith, N.wide, N.high, c.before.before.before.before.before.before.before.before.before.before.requires.0.taped.within.0), N.lie)
 
 add-lay-plain : tie.Need-overflow_add-f-then-gives_row invariant-loop decreases-loop
-add-lay-plain c = let N = next c.before.before.before.before.before in omega (arith, N.wide, N.high, c.before.before.before.before.before.before.before.before.before.before.before.before.well-formed)
+add-lay-plain c = let N = next c.before.before.before.before.before in omega (arith, N.wide, N.high, c.before.before.before.before.before.before.before.before.before.before.before.before.well_formed)
 
 lay-plain-requires : tie.Need-lay_plain-m-requires invariant-loop decreases-loop
 lay-plain-requires c κs =
@@ -150,7 +150,7 @@ add-k-2 : tie.Need-overflow_add-k-then-gives_row invariant-loop decreases-loop
 add-k-2 c =
     let S = c.before.before.before.before.before.before.before.before.before.before.before.before.before.before.before.before.before.before.before in
     let s = row_space (plain-filling c.before.before.before.before.before.before.before) S.requires.1 S.requires.2 in
-    omega (arith, s, c.before.before.before.before.before.before.before.before.before.before.before.before.before.loop-f.invariant.filling.rows_so.long, S.well-formed)
+    omega (arith, s, c.before.before.before.before.before.before.before.before.before.before.before.before.before.loop-f.invariant.filling.rows_so.long, S.well_formed)
 
 loop-less-2 : tie.Need-loop-f-smaller-then-gives_row invariant-loop decreases-loop
 loop-less-2 c =

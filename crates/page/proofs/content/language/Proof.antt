@@ -11,7 +11,7 @@ use borrow.Author.Rules.{rules}
 add-s : tie.Need-overflow_add-s
 add-s c =
     let start = c.before.before.before.before in
-    omega (arith, mp_within start.requires, start.well-formed)
+    omega (arith, mp_within start.requires, start.well_formed)
 
 mul-value-of : tie.Need-offset_bounds-tape-s
 mul-value-of c = search rules
@@ -25,7 +25,7 @@ cast-value-of c = omega (arith, c.shared_slice_known-5-1.given (c.before.before.
 add-value-of : tie.Need-overflow_add-s-2
 add-value-of c =
     let start = c.before.before.before.before.before in
-    omega (arith, mp_within start.requires, start.well-formed)
+    omega (arith, mp_within start.requires, start.well_formed)
 
 mul-value-of-2 : tie.Need-offset_bounds-tape-s-2
 mul-value-of-2 c = search rules

@@ -50,12 +50,12 @@ lay-slots-requires c κs =
 mul-lay-ws : tie.Need-overflow_mul-r-2
 mul-lay-ws c =
     let start = c.before.before.before.before.before.before.before.before.before.before.before.before.before.before.before.before.before.before.before in
-    omega (arith, start.requires.4, start.well-formed)
+    omega (arith, start.requires.4, start.well_formed)
 
 add-lay-ws : tie.Need-overflow_add-r-2
 add-lay-ws c =
     let start = c.before.before.before.before.before.before.before.before.before.before.before.before.before.before.before.before.before.before.before in
-    omega (arith, start.requires.4, start.well-formed)
+    omega (arith, start.requires.4, start.well_formed)
 
 lay-ws-requires : tie.Need-lay_ws-requires
 lay-ws-requires c κs =

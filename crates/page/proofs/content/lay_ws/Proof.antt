@@ -81,7 +81,7 @@ returns c =
     relay (ap (λ (l : List Elem). concat (ws_by l)) (lies_same _ _ _ _ _ _ v.all es v.all_lie L)) (finish (regoing (ap concat (no_w_lem (next c.before.before) c.if-tape-f.true)) v.going) (omega arith) (omega (arith, r.1)))
 
 add-lay-slots : tie.Need-overflow_add-f invariant-loop decreases-loop
-add-lay-slots c = let N = next c.before.before in omega (arith, N.wide, N.high, c.before.before.before.before.before.before.before.before.before.well-formed)
+add-lay-slots c = let N = next c.before.before in omega (arith, N.wide, N.high, c.before.before.before.before.before.before.before.before.before.well_formed)
 
 lay-slots-requires : tie.Need-lay_slots-m-requires invariant-loop decreases-loop
 lay-slots-requires c κs =
@@ -96,10 +96,10 @@ lay-slots-requires c κs =
     )
 
 add-b : tie.Need-overflow_add-b invariant-loop decreases-loop
-add-b c = omega (arith, c.before.before.before.before.before.before.before.before.before.before.loop-f.invariant.space, ap length (w-here c.before.before.before.before.before.before.before), c.before.before.before.before.before.before.before.before.before.before.before.before.before.before.before.before.well-formed)
+add-b c = omega (arith, c.before.before.before.before.before.before.before.before.before.before.loop-f.invariant.space, ap length (w-here c.before.before.before.before.before.before.before), c.before.before.before.before.before.before.before.before.before.before.before.before.before.before.before.before.well_formed)
 
 add-f : tie.Need-overflow_add-f-in-loop-f invariant-loop decreases-loop
-add-f c = let N = next c.before.before.before.before.before.before.before.before.before in omega (arith, N.wide, N.high, c.before.before.before.before.before.before.before.before.before.before.before.before.before.before.before.before.well-formed)
+add-f c = let N = next c.before.before.before.before.before.before.before.before.before in omega (arith, N.wide, N.high, c.before.before.before.before.before.before.before.before.before.before.before.before.before.before.before.before.well_formed)
 
 mul-f : tie.Need-offset_bounds-tape-f-in-loop-f invariant-loop decreases-loop
 mul-f c = search rules

@@ -14,7 +14,7 @@ mul-number-in c = omega (arith, c.before.before.before.requires.2)
 add-number-in : tie.Need-overflow_add-mp
 add-number-in c =
     let start = c.before.before.before in
-    omega (arith, start.requires.2, mp_within start.requires.0, start.well-formed)
+    omega (arith, start.requires.2, mp_within start.requires.0, start.well_formed)
 
 number-in-requires : tie.Need-number_in-requires
 number-in-requires c κs = let S = c.before.before.before in (omega (arith, mp_within S.requires.0, S.requires.2), mp_span S.requires.0 S.args.k S.requires.2, mp_short S.requires.0 S.requires.1 S.args.k S.requires.2 S.requires.3)

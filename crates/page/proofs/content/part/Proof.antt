@@ -37,7 +37,7 @@ shared-slice-read-if1 : tie.Need-bounds-tape-f invariant-loop decreases-loop
 shared-slice-read-if1 c = let N = next c.before in omega (arith, N.wide, N.high, c.before.before.before.requires.0.taped.within.0)
 
 add-result : tie.Need-overflow_add-result invariant-loop decreases-loop
-add-result c = let N = next c.before.before in omega (arith, N.wide, N.high, c.before.before.before.before.well-formed)
+add-result c = let N = next c.before.before in omega (arith, N.wide, N.high, c.before.before.before.before.well_formed)
 
 returns : tie.Need-returns-then-tape-f invariant-loop decreases-loop
 returns c =
@@ -45,7 +45,7 @@ returns c =
     part_here start.requires.0 start.args.kind start.requires.1 (next c.before.before) c.before.before.before.loop-f.invariant.so c.if-tape-f.true start.requires.0.taped.within.0
 
 add-f : tie.Need-overflow_add-f invariant-loop decreases-loop
-add-f c = let N = next c.before.before in omega (arith, N.wide, N.high, c.before.before.before.before.well-formed)
+add-f c = let N = next c.before.before in omega (arith, N.wide, N.high, c.before.before.before.before.well_formed)
 
 mul-f : tie.Need-offset_bounds-tape-f-in-loop-f invariant-loop decreases-loop
 mul-f c = search rules
