@@ -53,7 +53,7 @@ count-said-requires : tie.Need-count_said-of-requires
 count-said-requires c κs = (c.before.before.before.before.before.find_head-h.ensures.mp_at, (fits-at c.before.before.before.before.before.before.before.before.before.before.before.before.before.before.before.before).fit)
 
 cast-t27 : tie.Need-overflow_cast-result
-cast-t27 c = omega (arith, c.before.before.before.number_of_lem.ensures, (fits-at c.before.before.before.before.before.before.before.before.before.before.before.before.before.before.before.before.before).no_small)
+cast-t27 c = omega (arith, c.before.before.before.number_of-no.ensures, (fits-at c.before.before.before.before.before.before.before.before.before.before.before.before.before.before.before.before.before).no_small)
 
 cast-t28 : tie.Need-overflow_cast-result-2
 cast-t28 c = omega (arith, c.count_said-of.ensures, (fits-at c.before.before.before.before.before.before.before.before.before.before.before.before.before.before.before.before.before).of_small)

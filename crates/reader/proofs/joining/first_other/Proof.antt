@@ -49,7 +49,7 @@ loop-again : tie.Need-loop-i-preserved invariant-loop decreases-loop
 loop-again c =
     let start = c.before.before.before.before.before.before.before.before.before in
     let L = c.before.before.before in
-    let v = L.loop-i.invariant in (search rules, search rules, v.2, alike_more (pages_at start.args.buffer.now start.args.starts.now start.args.lens.now) L.loop-i.i (omega (arith, v.2, c.before.before.loop-i-test.true)) v.3 (sym c.before.like_first.ensures ∙ not_false _ c.if-not-like_first.false))
+    let v = L.loop-i.invariant in (search rules, search rules, v.2, alike_more (pages_at start.args.buffer.now start.args.starts.now start.args.lens.now) L.loop-i.i (omega (arith, v.2, c.before.before.loop-i-test.true)) v.3 (sym c.before.like_first.ensures ∙ c.if-not-like_first.false))
 
 returns-2 : tie.Need-returns invariant-loop decreases-loop
 returns-2 c =

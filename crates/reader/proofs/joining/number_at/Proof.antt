@@ -49,10 +49,10 @@ number-of-requires : tie.Need-number_of-no-requires
 number-of-requires c κs = (c.find_head-h.ensures.mp_at, (fits c.before.before.before.before).fit)
 
 cast-result : tie.Need-overflow_cast-result
-cast-result c = omega (arith, c.number_of_lem.ensures, (fits c.before.before.before.before.before).no_small)
+cast-result c = omega (arith, c.number_of-no.ensures, (fits c.before.before.before.before.before).no_small)
 
 returns : tie.Need-returns
-returns c = c.number_of_lem.ensures ∙ ap (λ (w : List ℕ). (content_of (tags_at w 0)).no) c.before.before.before.before.before.page_at-page.ensures
+returns c = c.number_of-no.ensures ∙ ap (λ (w : List ℕ). (content_of (tags_at w 0)).no) c.before.before.before.before.before.page_at-page.ensures
 
 pub number_at_spec : {M : Type 1} → statement M
 number_at_spec =

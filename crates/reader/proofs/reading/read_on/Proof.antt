@@ -78,15 +78,15 @@ lay-all-requires c κs =
     let J = c.before.before.before.before.before.before.before.before.judge_all-judged in
     let T = c.before.before.before.before.before.before.before.before.before.before.before.before.before.before.take_all-taken.auto in
     let C = c.before.before.before.before.clear in
-    let l = C.auto.numbers ∙ T.1.1.1.0 in (
+    let l = C.auto.numbers ∙ T.tape in (
       F.nine,
       F.lie,
       sheets_told (pages s) J.result J.ensures (sym c.before.before.before.before.before.before.before.refusal_number.ensures ∙ c.before.before.before.before.before.before.if-refusal_number-ne0.false),
       blank_again _ (omega (arith, s.requires.2.long, l)) C.ensures.1,
       omega (arith, s.requires.3, l),
       omega (arith, s.requires.4, l),
-      omega (arith, s.requires.5, T.1.1.1.1.0),
-      omega (arith, s.requires.6, T.1.1.1.1.0),
+      omega (arith, s.requires.5, T.side),
+      omega (arith, s.requires.6, T.side),
     )
 
 read-tapes-requires-2 : tie.Need-read_tapes-requires-2
