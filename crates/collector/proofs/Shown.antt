@@ -22,7 +22,7 @@ use Rattle.paper.proofs.Small.{no, same_self}
 use Rattle.paper.proofs.AnyOrder.{Perm}
 use Rattle.paper.proofs.ReadSound.{judges}
 use Rattle.paper.proofs.PageNumbers.{Numbered, numbered}
-use Rattle.paper.proofs.Collected.{keep, Way, way, broken, stranger, here, second, fresh, Reached, empty, more, Holds, holds, agrees_first, Rising, up_to_nine, incomplete, as_handed_in, add_all, reached_all, fed_any_order}
+use Rattle.paper.proofs.Collected.{keep, Way, way, broken, stranger, here, second, fresh, Reached, empty, more, Holds, holds, agrees_first_lem, Rising, up_to_nine, incomplete, as_handed_in, add_all, reached_all, fed_any_order}
 use Rattle.room.specs.Laid.{laid}
 use Rattle.room.proofs.LaidLaws.{laid_long, laid_there, laid_before, laid_behind}
 use Rattle.plan.specs.Numbers.{rows_lent}
@@ -84,7 +84,7 @@ module _ (c : Collector) where
 
 count_stays : (k : Paper.Collector) (y : Paper.Kept) → agrees y.says k ≡ true → y.says.of ≡ count_in (k ++ y ∷ [])
 count_stays [] y e = refl
-count_stays (x ∷ k) y e = ((agrees_first y.says x k).0 e).0
+count_stays (x ∷ k) y e = ((agrees_first_lem y.says x k).0 e).0
 
 -- ---- one page more
 

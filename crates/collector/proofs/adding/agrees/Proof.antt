@@ -1,6 +1,8 @@
 -- `collector::adding::agrees` meets its contract: where the first page has no fault, counts and heads decide.
 -- Assumes nothing.
 use mathlib.Core.Path.{sym, ◌∙◌}
+use Rattle.markup.specs.Walk.{tags_at}
+use Rattle.sheet.specs.Content.{content_of}
 use Rattle.tape.specs.Making.{IsSheet}
 use Rattle.tape.proofs.PageLaws.{fine_sheet}
 use Rattle.collector.proofs.KeepLaws.{says, refused_first, by_heads}
@@ -25,7 +27,7 @@ enum-told-2 : tie.Need-enum_told-in_default
 enum-told-2 c = search rules
 
 returns : tie.Need-returns-in_default
-returns c = refused_first _ _ _ _ (sym c.in_default.is ∙ c.before.before.judge_page-verdict.ensures)
+returns c = refused_first (content_of (tags_at c.before.before.before.before.before.before.args.page.now 0)) _ _ _ (sym c.in_default.is ∙ c.before.before.judge_page-verdict.ensures)
 
 belong-requires : tie.Need-belong-requires
 belong-requires c κs = (fine-at c, c.before.before.before.before.before.before.requires)

@@ -95,7 +95,7 @@ sub-t12 c =
     let e = same_pairs_lem (pairs_in a.length a.index.now) (index_of rs) (tested_at E) in
     let few = (few-at E.before.before.before).0 in
     let t = in_turn rs a.index.now a.length a.number (omega (arith, rows_long a.count a.rows.now)) (omega arith) e in
-    let x = c.before.ahead_of_lem.ensures.0 in
+    let x = c.before.ahead_of-at.ensures.0 in
     let y = c.ahead_of-end.ensures.0 in
     omega arith
 
@@ -109,7 +109,7 @@ returns-4 c =
     let few = (few-at E.before.before.before).0 in
     let long = rows_long a.count a.rows.now in
     let told = this_index a.rows.now a.count a.index.now a.length a.number (fit_at E.before.before.before) E.before.before.if-len-index.false (tested_at E) in
-    let A = c.before.ahead_of_lem in
+    let A = c.before.ahead_of-at in
     let B = c.ahead_of-end in (
       holders a.number rs,
       (told, rows_stand rs a.index.now a.length a.number (omega arith) (omega arith) e A.result B.result A.ensures.0 B.ensures.0),
