@@ -14,8 +14,8 @@ use Rattle.index.proofs.ask.all.Statement.{statement}
 use Rattle.index.proofs.ask.all.Tie as tie
 
 -- the rows that hold the number stand in the pairs that were found
-found_at : (c : tie.In-Span) → let a = c.before.before.before.before.before.before.args in let g = c.before.at.given.0 in
-    (is : List ℕ) × ((replied a.rows.now a.count a.index.now a.length a.number ≡ reply_of is) × Stand a.index.now is g.0 g.1.0)
+found_at : (c : tie.In-Span) → let a = c.before.before.before.before.before.before.args in let g = c.in-Span in
+    (is : List ℕ) × ((replied a.rows.now a.count a.index.now a.length a.number ≡ reply_of is) × Stand a.index.now is g.at g.count)
 found_at c =
     let a = c.before.before.before.before.before.before.args in
     subst (λ r. Finds r (replied a.rows.now a.count a.index.now a.length a.number) a.index.now) c.in-Span.is c.before.find.ensures
@@ -95,11 +95,11 @@ returns-5 c =
     let E = L.before.before in
     let K = E.before in
     let a = c.before.before.before.before.before.before.before.before.before.before.before.before.args in
-    let g = K.before.at.given.0 in
+    let g = K.in-Span in
     let (is, (f, S)) = found_at K in
     let e = fits-at K.before.before ∙ f in
-    let x = first_stands a.index.now is g.0 g.1.0 S E.if-count-eq0.false in (
-      sym (ap reply_told e ∙ told_first is g.1.0 S.many E.if-count-eq0.false ∙ ap (λ i. Held i g.1.0) (sym x)),
+    let x = first_stands a.index.now is g.at g.count S E.if-count-eq0.false in (
+      sym (ap reply_told e ∙ told_first is g.count S.many E.if-count-eq0.false ∙ ap (λ i. Held i g.count) (sym x)),
       L.lay_rows.ensures ∙ ap (λ l. laid a.list.now 0 l) S.rows_are ∙ sym (ap (λ y. list_after y a.list.now) e ∙ told_all is a.list.now (λ z. E.if-count-eq0.false (sym S.many ∙ z))),
     )
 

@@ -12,8 +12,8 @@ use Rattle.index.proofs.ask.first.Statement.{statement}
 use Rattle.index.proofs.ask.first.Tie as tie
 
 -- the rows that hold the number stand in the pairs that were found
-found_at : (c : tie.In-Span) → let a = c.before.before.before.before.args in let g = c.before.at.given.0 in
-    (is : List ℕ) × ((replied a.rows.now a.count a.index.now a.length a.number ≡ reply_of is) × Stand a.index.now is g.0 g.1.0)
+found_at : (c : tie.In-Span) → let a = c.before.before.before.before.args in let g = c.in-Span in
+    (is : List ℕ) × ((replied a.rows.now a.count a.index.now a.length a.number ≡ reply_of is) × Stand a.index.now is g.at g.count)
 found_at c =
     let a = c.before.before.before.before.args in
     subst (λ r. Finds r (replied a.rows.now a.count a.index.now a.length a.number) a.index.now) c.in-Span.is c.before.find.ensures
@@ -64,10 +64,10 @@ returns-4 : tie.Need-returns-else-count-eq0
 returns-4 c =
     let K = c.before.before in
     let a = c.before.before.before.before.before.before.args in
-    let g = K.before.at.given.0 in
+    let g = K.in-Span in
     let (is, (e, S)) = found_at K in
-    let x = first_stands a.index.now is g.0 g.1.0 S c.before.if-count-eq0.false in
-    sym (ap reply_told e ∙ told_first is g.1.0 S.many c.before.if-count-eq0.false ∙ ap (λ i. Held i g.1.0) (sym x))
+    let x = first_stands a.index.now is g.at g.count S c.before.if-count-eq0.false in
+    sym (ap reply_told e ∙ told_first is g.count S.many c.before.if-count-eq0.false ∙ ap (λ i. Held i g.count) (sym x))
 
 pub first_spec : {M : Type 1} → statement M
 first_spec =

@@ -14,8 +14,8 @@ use Rattle.index.proofs.ask.nth.Statement.{statement}
 use Rattle.index.proofs.ask.nth.Tie as tie
 
 -- the rows that hold the number stand in the pairs that were found
-found_at : (c : tie.In-Span) → let a = c.before.before.before.before.args in let g = c.before.at.given.0 in
-    (is : List ℕ) × ((replied a.rows.now a.count a.index.now a.length a.number ≡ reply_of is) × Stand a.index.now is g.0 g.1.0)
+found_at : (c : tie.In-Span) → let a = c.before.before.before.before.args in let g = c.in-Span in
+    (is : List ℕ) × ((replied a.rows.now a.count a.index.now a.length a.number ≡ reply_of is) × Stand a.index.now is g.at g.count)
 found_at c =
     let a = c.before.before.before.before.args in
     subst (λ r. Finds r (replied a.rows.now a.count a.index.now a.length a.number) a.index.now) c.in-Span.is c.before.find.ensures
@@ -86,12 +86,12 @@ returns-6 c =
     let T = c.before in
     let E = T.before.before in
     let a = c.before.before.before.before.before.before.before.before.args in
-    let g = E.before.before.at.given.0 in
+    let g = E.before.in-Span in
     let h = T.before.if-k-lt1.false in
     let k = T.if-k-count.false in
     let (is, (e, S)) = found_at E.before in
-    let x : g.0 + a.k - 1 ≡ g.0 + (a.k - 1) = omega (arith, h) in
-    let y = ap (λ j. get_or a.index.now (2 * j + 1) 0) x ∙ row_stands a.index.now is g.0 g.1.0 (a.k - 1) S (omega (arith, h, k)) in
+    let x : g.at + a.k - 1 ≡ g.at + (a.k - 1) = omega (arith, h) in
+    let y = ap (λ j. get_or a.index.now (2 * j + 1) 0) x ∙ row_stands a.index.now is g.at g.count (a.k - 1) S (omega (arith, h, k)) in
     let z = told_nth is a.k (λ n. E.if-count-eq0.false (sym S.many ∙ n)) ∙ kth_row is a.k h (omega (arith, k, S.many)) in
     sym (ap (nth_told a.k) e ∙ z ∙ ap Row (sym y))
 
