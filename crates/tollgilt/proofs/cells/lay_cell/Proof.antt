@@ -23,7 +23,7 @@ text-is : (T : tie.After-cell_text-shown) → let a = T.before.before.before.bef
 text-is T =
     let K = T.before.before in
     let a = K.before.before.before.before.before.before.args in
-    (part_of a.rows.now a.count a.text a.catalogue a.row a.field a.which (Shown K.in-Shown.s) T.cell_text-shown.result (record { answer_is = values-are K; text-is = T.cell_text-shown.ensures })).2
+    (part_of a.rows.now a.count a.text a.catalogue a.row a.field a.which (Shown K.in-Shown.s) T.cell_text-shown.result (record { answer_is = values-are K; text_is = T.cell_text-shown.ensures })).2
 
 cell-answer-requires : tie.Need-cell_answer-a-requires
 cell-answer-requires c κs = search rules

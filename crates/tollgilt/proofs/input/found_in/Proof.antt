@@ -27,7 +27,7 @@ module _ (c : tie.Then-refusal-eq0) where
   abbrev found : tie.After-find_pages-found
   found = c.before.before.before
 
-  listed : (found.find_pages-found.result.rows ≤ length found.find_pages-found.last.1.1.1.1.0) × (held_lines (take found.find_pages-found.result.rows found.find_pages-found.last.1.1.1.1.0) ≡ found_in (start found).args.number (start found).args.input.now)
+  listed : (found.find_pages-found.result.rows ≤ length found.find_pages-found.new.list) × (held_lines (take found.find_pages-found.result.rows found.find_pages-found.new.list) ≡ found_in (start found).args.number (start found).args.input.now)
   listed =
       rows_listed (start found).args.number (start found).args.input.now _ _ _ found.find_pages-found.result _ all-rows (split found).split-parts.ensures.2 found.find_pages-found.ensures
       (sym c.before.refusal_number-refusal.ensures ∙ c.if-refusal-eq0.true)

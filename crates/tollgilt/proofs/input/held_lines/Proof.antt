@@ -36,7 +36,7 @@ abbrev counting : tie.At-loop-i invariant-loop decreases-loop → tie.After-coun
 counting L = L.before.before.before
 
 abbrev start : tie.At-loop-i invariant-loop decreases-loop → tie.Start invariant-loop decreases-loop
-start L = (counting L).before.before.before.before.before
+start L = (counting L).before.before.before.before.before.before
 
 count-line-requires : tie.Need-count_line-a-requires invariant-loop decreases-loop
 count-line-requires c κs =

@@ -34,23 +34,23 @@ cast-at c = search rules
 
 slice-aggregate-lay : tie.Need-slice_bounds-lay-end invariant-loop decreases-loop
 slice-aggregate-lay c =
-    let K = c.before.before.before in
-    let S = K.before.before in
+    let K = c.before.before in
+    let S = K.before.before.before in
     let (s, _, f, g) = S.requires in
     sym (length-take-le _ _ (first_inside S.args.room.now S.args.fresh.lens S.args.fresh.pages S.args.out.now s (few K) f g))
 
 lay-requires : tie.Need-lay-n-requires invariant-loop decreases-loop
 lay-requires c κs =
-    let K = c.before.before.before in
-    let S = K.before.before in
+    let K = c.before.before in
+    let S = K.before.before.before in
     let (s, _, f, g) = S.requires in
     first_fits S.args.room.now S.args.fresh.lens S.args.fresh.pages S.args.out.now s (few K) f g
 
 loop-holds : tie.Need-loop-k-init invariant-loop decreases-loop
 loop-holds c =
     let L = c.before.before in
-    let K = L.before.before.before.before in
-    let S = K.before.before in
+    let K = L.before.before.before in
+    let S = K.before.before.before in
     let (s, _, f, g) = S.requires in
     join_first S.args.room.now S.args.fresh.lens S.args.fresh.pages S.args.out.now s (few K) f g _ _ L.lay-n.ensures
 
@@ -106,8 +106,8 @@ returns : tie.Need-returns invariant-loop decreases-loop
 returns c =
     let A = c.before in
     let L = A.before.before.before in
-    let K = L.before.before.before.before in
-    let S = K.before.before in
+    let K = L.before.before.before in
+    let S = K.before.before.before in
     let (s, _, f, g) = S.requires in
     join_done S.args.room.now S.args.fresh.lens S.args.fresh.pages S.args.out.now s (few K) f g _ _ L.lay-n.ensures _ _ _ _ A.loop-k.invariant c.loop-k-test.false
 
