@@ -1,14 +1,14 @@
 -- Cuts: how many bytes of a text that is too long the code shows: it goes back from the last byte that has room, up to the first place whose blank may be cut before.
 -- Assumes nothing.
-use mathlib.Core.Path.{◌≡◌, refl, ap, sym, ◌∙◌}
+use mathlib.Core.Path.{◌≡◌, refl, ap, ◌∙◌}
 use mathlib.Core.Bool.{Bool, true, false, ◌&&◌}
 use mathlib.Core.List.{List}
 use Prim.Native.Nat.{ℕ, zero, suc, ◌+◌, ◌-◌, ◌≤◌, ◌<◌}
 use native.Mathlib.Omega.{arith}
 use lib.Dec.{eqb, leb}
-use lib.ListN.{take, drop, get_or}
-use lib.Seq.{get_or-take, get_or-drop}
-use borrow.Author.Tests.{eq-eqb, ne_eqb, leb-true, leb-false, le-leb, lt-leb}
+use lib.ListN.{take, get_or}
+use lib.Seq.{get_or-take}
+use borrow.Author.Tests.{eq-eqb, ne_eqb, leb-true, leb-false, le-leb}
 use Rattle.paper.specs.Lists.{if}
 use Rattle.paper.specs.Cells.{is_seam, last_before, shown_of}
 use Rattle.cell.specs.Found.{first_place}

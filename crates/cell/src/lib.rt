@@ -1,5 +1,7 @@
 // The text of a printed cell: the plan's own value, else the catalogue's text, as a part of the one or the other, cut where it is too long. Any rows, text,
 // catalogue and numbers may be handed in. specs/Numbered.antt says which cell of document 01 each call asks for, specs/Answers.antt what is answered.
+#![tactic(auto)]
+
 pub mod answer;
 
 ghost use Rattle.std.specs.Prelude.{◌≡◌, true, ◌+◌, ◌≤◌, length, drop};

@@ -1,17 +1,17 @@
 -- LookupLaws: keys of names byte by byte, a key looked for step by step, and that a key tells its name.
 -- Assumes nothing.
 use mathlib.Core.Path.{◌≡◌, refl, sym, ap, ◌∙◌}
-use mathlib.Core.Bool.{Bool, true, false, not, ◌&&◌, ◌||◌}
-use mathlib.Core.List.{List, [], ◌∷◌, map}
+use mathlib.Core.Bool.{Bool, true, false, not}
+use mathlib.Core.List.{List, [], ◌∷◌}
 use Prim.Native.Nat.{ℕ, zero, suc, ◌+◌, ◌*◌, ◌-◌, ◌≤◌, ◌<◌}
 use native.Mathlib.Numerals.{add-one}
 use native.Mathlib.Omega.{arith}
-use lib.Dec.{eqb, leb, ltb}
-use lib.ListN.{length, take, drop, get_or, drop_of_length-le}
+use lib.Dec.{eqb, leb}
+use lib.ListN.{length, take, drop, get_or}
 use lib.Seq.{drop-cons}
 use borrow.Author.Tests.{eq-eqb, ne_eqb, leb-false}
-use Rattle.paper.specs.Lists.{if, same, every, until}
-use Rattle.paper.proofs.Small.{both, no, same_self, same_eq}
+use Rattle.paper.specs.Lists.{if, same, until}
+use Rattle.paper.proofs.Small.{no, same_self, same_eq}
 use Rattle.fields.specs.Places.{key_of, key_or_none}
 use Rattle.fields.specs.Columns.{other}
 

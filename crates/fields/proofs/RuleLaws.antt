@@ -1,17 +1,17 @@
 -- RuleLaws: text byte by byte, lines byte by byte, rules and their numbers, and a field's tests one after the other.
 -- Assumes nothing.
 use mathlib.Core.Path.{◌≡◌, refl, sym, ap, ◌∙◌}
-use mathlib.Core.Bool.{Bool, true, false, not, ◌&&◌, ◌||◌}
+use mathlib.Core.Bool.{Bool, true, false, ◌&&◌}
 use mathlib.Core.List.{List, [], ◌∷◌}
 use Prim.Native.Nat.{ℕ, zero, suc, ◌+◌, ◌≤◌, ◌<◌}
 use native.Mathlib.Nat.{add-zero}
 use native.Mathlib.Numerals.{add-one}
 use native.Mathlib.Omega.{arith}
-use lib.Dec.{eqb, leb, ltb, eqb→eq}
+use lib.Dec.{eqb, leb, ltb}
 use lib.ListN.{length, drop, get_or, drop_of_length-le, get_or-eq_default}
 use lib.Seq.{drop-cons}
 use borrow.Author.Tests.{ne_eqb, eqb-true, le-leb, lt-leb, ltb-true, ltb-false}
-use Rattle.paper.specs.Lists.{if, every, count, same, is_empty}
+use Rattle.paper.specs.Lists.{if, every, count, is_empty}
 use Rattle.paper.specs.Bytes.{is_decoded}
 use Rattle.paper.specs.Fields.{Field, Rule, text, version, digits, hexes, language, page_no, birthday, sex, insured, stamp, one, lines, pzn, code3, dose, sign}
 use Rattle.paper.specs.Rules.{lines_ok, is_zero, keeps, obeys}

@@ -1,7 +1,7 @@
 -- Places: the numbers by which the code names elements, rules and fields. An element's number is paper's `code`, its place in `kinds`; a field's is its place in the
 -- table.
 -- Assumes nothing.
-use Rattle.std.specs.Prelude.{Bool, true, false, ◌&&◌, List, [], ◌∷◌, map, ℕ, zero, suc, ◌+◌, ◌*◌, ◌/◌, ◌%◌, eqb, leb, ltb, length, take, drop, get_or}
+use Rattle.std.specs.Prelude.{Bool, false, ◌&&◌, List, [], ◌∷◌, map, ℕ, zero, suc, ◌+◌, ◌*◌, ◌/◌, ◌%◌, eqb, leb, ltb, length, take, drop, get_or}
 use Rattle.paper.specs.Lists.{if, same, is_empty}
 use Rattle.paper.specs.Fields.{Kind, unknown, MP, is, Field, field, table, fields_of, children, excluded, Pair, kinds}
 use Rattle.paper.specs.Fields.{Rule, text, version, digits, hexes, language, page_no, birthday, sex, insured, stamp, one, lines, pzn, code3, dose, sign}

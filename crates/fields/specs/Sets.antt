@@ -1,6 +1,6 @@
 -- Sets: the sets of bytes that the rules are written in, each named by one byte, so that a pattern is a byte string such as "####-##-##".
 -- Assumes nothing.
-use Rattle.std.specs.Prelude.{Bool, true, false, ◌&&◌, ◌||◌, List, [], ◌∷◌, ℕ, eqb, leb}
+use Rattle.std.specs.Prelude.{Bool, ◌&&◌, ◌||◌, List, [], ◌∷◌, ℕ, eqb, leb}
 use Rattle.paper.specs.Lists.{if}
 use Rattle.paper.specs.Bytes.{is_digit, is_capital, is_small, is_letter}
 use Rattle.paper.specs.Rules.{is_hex_capital}

@@ -2,6 +2,8 @@
 // field's rule (`rules`, over `sets`, `dates`, `dose`, `package_number` and `numbers`).
 //
 // The contracts cite the definitions of the crate `paper`, and for the numbers that code goes by `specs/` of this crate.
+#![tactic(auto)]
+
 pub mod dates;
 pub mod dose;
 pub mod lookup;

@@ -2,11 +2,11 @@
 -- Assumes nothing.
 use mathlib.Core.Path.{◌≡◌, refl, ap, ◌∙◌}
 use mathlib.Core.List.{List, [], ◌∷◌, ◌++◌, map}
-use Prim.Native.Nat.{ℕ, suc, ◌+◌}
+use Prim.Native.Nat.{ℕ, suc}
 use native.Mathlib.Omega.{arith}
 use lib.ListN.{length, get_or}
 use Rattle.paper.specs.Lists.{bytes}
-use Rattle.paper.specs.Fields.{MP, P, A, O, edition, Field, fields_of}
+use Rattle.paper.specs.Fields.{MP, edition, Field, fields_of}
 use Rattle.paper.specs.Plan.{Slots}
 use Rattle.paper.specs.Layout.{Span, shown_all}
 use Rattle.paper.specs.Writing.{decimal}

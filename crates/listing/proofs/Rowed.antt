@@ -9,7 +9,7 @@ use native.Mathlib.Omega.{arith}
 use lib.ListN.{take, drop, get_or, drop_of_length-le}
 use lib.Seq.{drop-drop}
 use Rattle.paper.specs.Lists.{bytes, if}
-use Rattle.paper.specs.Fields.{Kind, S, M, W, is, Field, fields_of}
+use Rattle.paper.specs.Fields.{Kind, M, W, is, Field, fields_of}
 use Rattle.paper.specs.Plan.{Slots, Row}
 use Rattle.paper.specs.Judging.{all_empty}
 use Rattle.paper.specs.Layout.{shown_all}

@@ -1,8 +1,8 @@
 -- Numbered: the line of a value that may be absent, and the lines of fields whose values are shown by spans among numbers.
 -- Assumes nothing.
-use Rattle.std.specs.Prelude.{List, [], ◌∷◌, ◌++◌, ℕ, ◌+◌, get_or}
+use Rattle.std.specs.Prelude.{List, [], ◌∷◌, ◌++◌, ℕ, get_or}
 use Rattle.paper.specs.Lists.{bytes}
-use Rattle.paper.specs.Fields.{table, edition, M, W}
+use Rattle.paper.specs.Fields.{edition, M, W}
 use Rattle.paper.specs.Layout.{shown_all}
 use Rattle.paper.specs.Listing.{Line, line, path, field_lines}
 use Rattle.paper.specs.Writing.{decimal}

@@ -2,6 +2,8 @@
 // and planlist's input split into its pages (`pages`).
 //
 // The contracts cite paper's listing; what is written is that listing, and all other bytes of the room stay.
+#![tactic(auto)]
+
 pub mod elements;
 pub mod lines;
 pub mod pages;

@@ -1,9 +1,9 @@
 -- ClassLaws: the table holds document 01's class of each byte, by one test that is computed over all 256 entries; and 0 is for the refused bytes alone.
 -- Assumes nothing.
-use mathlib.Core.Path.{◌≡◌, refl, sym, ap, ◌∙◌}
+use mathlib.Core.Path.{◌≡◌, refl}
 use mathlib.Core.Bool.{Bool, true, false, not}
-use mathlib.Core.List.{List, [], ◌∷◌}
-use Prim.Native.Nat.{ℕ, suc, ◌+◌, ◌≤◌, ◌<◌}
+use mathlib.Core.List.{List}
+use Prim.Native.Nat.{ℕ, ◌+◌, ◌≤◌, ◌<◌}
 use native.Mathlib.Nat.{add-zero}
 use native.Mathlib.Numerals.{add-one}
 use native.Mathlib.Omega.{arith}
@@ -12,7 +12,6 @@ use lib.ListN.{length, get_or, drop, drop_of_length-le}
 use lib.Seq.{drop-cons}
 use Rattle.paper.specs.Lists.{if, until}
 use Rattle.paper.specs.Bytes.{refused, space, digit, capital, small, other, is_allowed, is_space, is_digit, is_capital, is_small, class_of, class_number, first_refused}
-use Rattle.paper.proofs.Small.{no}
 use Rattle.paper.proofs.Table.{at}
 use Rattle.marks.proofs.ClassList.{classes}
 

@@ -1,4 +1,6 @@
 // Byte classes: document 01's one table of 256 entries, and the first byte of a slice that is not allowed.
+#![tactic(auto)]
+
 mod classes;
 
 ghost use Rattle.std.specs.Prelude.{◌≡◌};

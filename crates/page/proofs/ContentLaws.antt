@@ -16,10 +16,9 @@ use Rattle.paper.specs.Fields.{Kind, M, R, S, X, is, fields_of}
 use Rattle.paper.specs.Plan.{Slots}
 use Rattle.paper.specs.Judging.{all_empty, item, row_of}
 use Rattle.paper.proofs.Small.{no, below_at}
-use Rattle.paper.specs.Layout.{Span, span_at, spans_from}
+use Rattle.paper.specs.Layout.{span_at, spans_from}
 use Rattle.room.specs.Laid.{laid}
 use Rattle.room.proofs.LaidLaws.{Laying, start, next_piece, next_byte, all_laid, laid_long}
-use Rattle.markup.specs.Walk.{inside}
 use Rattle.fields.specs.Places.{count_of, kind_at}
 use Rattle.fields.proofs.TableLaws.{code_back}
 use Rattle.plan.specs.Numbers.{flat, kind_number}

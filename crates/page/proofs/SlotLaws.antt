@@ -1,17 +1,17 @@
 -- SlotLaws: the spans of a tape one at a time, and their values laid.
 -- Assumes nothing.
-use mathlib.Core.Path.{◌≡◌, sym, ap, ◌∙◌, subst}
-use mathlib.Core.Bool.{Bool, true, false, ◌&&◌}
-use mathlib.Core.List.{List, [], ◌∷◌, ◌++◌, append-nil}
+use mathlib.Core.Path.{◌≡◌, ap, ◌∙◌}
+use mathlib.Core.Bool.{true, false, ◌&&◌}
+use mathlib.Core.List.{List, [], ◌∷◌}
 use Prim.Native.Nat.{ℕ, zero, suc, ◌+◌, ◌*◌, ◌-◌, ◌≤◌, ◌<◌}
 use native.Mathlib.Omega.{arith}
 use lib.ListN.{length, take, drop, get_or}
-use lib.Seq.{slice, take-nil, take-length, length-slice}
+use lib.Seq.{slice, take-length}
 use borrow.Author.Tests.{lt-ltb, le-ltb}
 use Rattle.paper.specs.Lists.{same, number}
 use Rattle.paper.specs.Plan.{Slots, same_slots}
 use Rattle.page.specs.Laying.{Room, Lays}
-use Rattle.page.proofs.ContentLaws.{Going, turn, room_left, room_first, room_one, regoing, replaced}
+use Rattle.page.proofs.ContentLaws.{Going, turn, room_left, room_first, regoing}
 use Rattle.room.proofs.Parts.{part_is}
 use Rattle.room.proofs.PairLaws.{pairs_long, pairs_at_lem, each_at}
 use Rattle.tape.specs.Tape.{shown_in, values_at, Span, Spans}

@@ -2,17 +2,17 @@
 -- Assumes nothing.
 use mathlib.Core.Path.{◌≡◌, refl, sym, ap, ◌∙◌, subst}
 use mathlib.Core.Bool.{Bool, true, false, not, ◌&&◌}
-use mathlib.Core.List.{List, [], ◌∷◌, ◌++◌, append-nil}
-use Prim.Native.Nat.{ℕ, suc, ◌+◌, ◌*◌, ◌-◌, ◌≤◌, ◌<◌}
+use mathlib.Core.List.{List, [], ◌∷◌, ◌++◌}
+use Prim.Native.Nat.{ℕ, suc, ◌+◌, ◌*◌, ◌≤◌, ◌<◌}
 use native.Mathlib.Omega.{arith}
-use lib.Dec.{eqb, leb, ltb}
-use lib.ListN.{length, take, drop, get_or, length-append}
+use lib.Dec.{eqb, leb}
+use lib.ListN.{length, get_or, length-append}
 use borrow.Author.Tests.{eq-eqb, ne_eqb, leb-true}
 use Rattle.paper.specs.Lists.{bytes, if, concat, number, is_empty, same}
-use Rattle.paper.specs.Grammar.{Attr, Tag, start, end}
-use Rattle.paper.specs.Fields.{Kind, MP, P, S, M, W, is, Field, fields_of}
+use Rattle.paper.specs.Grammar.{Tag, start, end}
+use Rattle.paper.specs.Fields.{Kind, MP, S, M, W, is, Field, fields_of}
 use Rattle.paper.specs.Plan.{Slots, Row, Head, slot, blank, same_slots, same_head}
-use Rattle.paper.specs.Judging.{item, row_of, broken, judge, sheet, tail, or}
+use Rattle.paper.specs.Judging.{item, row_of, broken, or}
 use Rattle.paper.specs.Layout.{row_values}
 use Rattle.paper.proofs.Told.{is_eq}
 use Rattle.paper.proofs.Small.{below_at}
@@ -24,15 +24,15 @@ use Rattle.fields.proofs.TableLaws.{kind_back, code_back}
 use Rattle.plan.specs.Numbers.{record_with}
 use Rattle.plan.proofs.Spans.{record_size}
 use Rattle.room.proofs.LaidLaws.{laid_long}
-use Rattle.sheet.specs.Content.{kind_named, part_from, rows_from, head_from}
+use Rattle.sheet.specs.Content.{part_from, head_from}
 use Rattle.sheet.specs.Fit.{Fit}
 use Rattle.page.specs.Laying.{Room, Lays, gives_row, row_from, LaysRow}
 use Rattle.page.proofs.ContentLaws.{row_given, row_none, placed_at, behind}
 use Rattle.page.proofs.RowLaws.{row_laid, package_short}
 use Rattle.page.proofs.HeadLaws.{short_kept, mp_kept, ident_is, lang_is}
 use Rattle.sheet.proofs.PageLaws.{page_fit}
-use Rattle.tape.specs.Tape.{Elem, elem, header, starts_of, elems_of, part_by, ws_by, rows_by, shown_in, values_at, Span, Spans, ElemAt, Lies, Taped}
-use Rattle.tape.proofs.TapeLaws.{part_by_lem, ws_by_lem, rows_by_lem}
+use Rattle.tape.specs.Tape.{Elem, elem, header, starts_of, elems_of, part_by, ws_by, rows_by, shown_in, values_at, Span, Spans, Lies}
+use Rattle.tape.proofs.TapeLaws.{part_by_lem, ws_by_lem}
 use Rattle.page.specs.Walking.{Blank, Read, FitBy, Walk, PartAt}
 use Rattle.page.proofs.SlotLaws.{values_long, values_at_lem, span_at_lem}
 

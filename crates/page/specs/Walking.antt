@@ -1,6 +1,6 @@
 -- Walking: where the parts of a page lie on a tape, and what is known of elements that are laid out. Serves the code that walks tapes.
 -- Assumes nothing.
-use Rattle.std.specs.Prelude.{◌≡◌, true, false, List, [], ◌∷◌, ℕ, suc, ◌+◌, ◌*◌, ◌≤◌, ◌<◌, length, get_or}
+use Rattle.std.specs.Prelude.{◌≡◌, true, false, List, [], ◌∷◌, ℕ, ◌+◌, ◌*◌, ◌≤◌, ◌<◌, length, get_or}
 use Rattle.paper.specs.Fields.{Kind, MP, P, A, O, M, is, fields_of}
 use Rattle.paper.specs.Judging.{broken}
 use Rattle.tape.specs.Tape.{Elem, elems_of, part_by, ws_by, values_at, Spans, Lies, Taped}

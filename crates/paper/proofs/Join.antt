@@ -8,7 +8,7 @@ use lib.Dec.{eqb}
 use lib.ListN.{length}
 use borrow.Author.Tests.{eqb-false, eq-eqb, ne_eqb, le-leb}
 use Rattle.paper.specs.Lists.{concat}
-use Rattle.paper.proofs.Small.{no, same_self}
+use Rattle.paper.proofs.Small.{same_self}
 use Rattle.paper.specs.Plan.{Slots, Row, Head, same_head, same_slots}
 use Rattle.paper.specs.Judging.{Sheet}
 use Rattle.paper.specs.Reading.{plan, page9, has, page10, number11, joined, join}

@@ -14,7 +14,7 @@ use Rattle.paper.specs.Grammar.{Attr, Tag, start, end, placed}
 use Rattle.paper.specs.Fields.{Kind, unknown, MP, is, Field, field, page_no, fields_of}
 use Rattle.paper.specs.Rules.{keeps, obeys}
 use Rattle.paper.specs.Plan.{Slots}
-use Rattle.paper.specs.Judging.{found, slots_of, breaks, broken, own, kind_in, enter, here, faults, Item, item, early, items, or, Sheet, sheet_of, sheet, least, judge}
+use Rattle.paper.specs.Judging.{found, slots_of, breaks, broken, own, kind_in, enter, here, faults, Item, item, early, items, or, Sheet, sheet_of, sheet, judge}
 use Rattle.paper.proofs.Small.{no, both, neither}
 use Rattle.paper.proofs.Given.{fault_nil, append_nil_both, own_clear}
 use Rattle.paper.proofs.Told.{Root, is_eq, page_placed}

@@ -6,7 +6,7 @@ use Prim.Native.Nat.{ℕ, zero, suc}
 use native.Mathlib.Omega.{arith}
 use Rattle.paper.specs.Plan.{Head}
 use Rattle.paper.specs.Judging.{Sheet}
-use Rattle.paper.specs.Reading.{refusal, number11, joined, refuse_at, enough, join, read}
+use Rattle.paper.specs.Reading.{number11, joined, refuse_at, enough, join, read}
 use Rattle.paper.proofs.AnyOrder.{Perm, Alike, Distinct, Each, each_judged, perm_length, alike_other, none_nil, distinct_again, perm_alike, perm_has, perm_distinct, perm_rows, same_joined, perm_each}
 
 -- ---- what joining them gives

@@ -14,9 +14,8 @@ use Rattle.paper.specs.Fields.{Kind, unknown, MP, P, A, O, S, M, W, R, X, is, Fi
 use Rattle.paper.specs.Rules.{keeps, obeys, is_zero}
 use Rattle.paper.specs.Values.{cut}
 use Rattle.paper.specs.Plan.{Slots, slot, Row, blank}
-use Rattle.paper.specs.Judging.{Frame, Stack, misplaced, how_many, Item, item, lacks, all_empty, row_of, rows_of, tail, part}
+use Rattle.paper.specs.Judging.{Frame, Stack, misplaced, how_many, Item, item, lacks, all_empty, row_of, rows_of, part}
 use Rattle.paper.specs.Writing.{good_slot, good_slots, good_element, opening, ws_text, body_text, rows_text, heading, row_slots, sound_row, none_of, needs, decimal, digits_of}
-use Rattle.paper.specs.Writing as Wr
 use Rattle.paper.proofs.Element.{MpFine, name_of, good_slots_lem}
 use Rattle.paper.proofs.Told.{nothing}
 use Rattle.paper.proofs.Fine.{Fine, Elem, fine_bare, fine_open, fine_close}

@@ -12,7 +12,7 @@ use Rattle.paper.specs.Bytes.{is_allowed}
 use Rattle.paper.proofs.Small.{no, both, no_not, every_append, and_intro, below_at}
 use Rattle.paper.specs.Grammar.{Tag, start, Page, full, done, placed}
 use Rattle.paper.proofs.Taken.{taken_page}
-use Rattle.paper.specs.Fields.{Kind, MP, P, A, O, Field, field, fields_of, tag_name, excluded, version, digits, hexes, language, page_no}
+use Rattle.paper.specs.Fields.{Kind, MP, P, A, O, Field, field, fields_of, tag_name, excluded, digits, hexes, language, page_no}
 use Rattle.paper.specs.Plan.{Slots, Row, Head, blank, names_of}
 use Rattle.paper.specs.Judging.{Item, item, all_empty, rows_of, part, sheet_of, or, Sheet, sheet, judge, faults, items, missing, clash}
 use Rattle.paper.specs.Writing.{good_slot, good_slots, good_element, opening, closing, rows_text, measures_text, sound_head, decimal, mp_slots, page, spelled, attrs_of}

@@ -10,7 +10,7 @@ use borrow.Author.Tests.{eqb-true, eqb-false, eq-eqb, ne_eqb, leb-false}
 use Rattle.paper.specs.Lists.{bytes, if, every, is_empty, some_of}
 use Rattle.paper.proofs.Small.{no, both, neither}
 use Rattle.paper.specs.Grammar.{Attr, Tag, start, end, Rest, Page, done, space, bare, full, close, placed}
-use Rattle.paper.specs.Fields.{Kind, unknown, MP, P, A, S, M, W, code, is, fields_of, later, kinds}
+use Rattle.paper.specs.Fields.{Kind, unknown, MP, P, A, M, W, code, is, fields_of, later, kinds}
 use Rattle.paper.specs.Plan.{Slots, slot, blank}
 use Rattle.paper.specs.Judging.{own, slots_of, Frame, frame, Stack, kind_in, misplaced, how_many, enter, note, here, faults, lacks, Item, item, early, items, part}
 use Rattle.paper.specs.Writing.{good_element, none_of}

@@ -1,5 +1,6 @@
 // Document 01 as definitions (specs/) and the theorems about them (proofs/), and of its numbers those that code needs. The one function here has no use: a crate
 // has at least one.
+#![tactic(auto)]
 
 // The bytes that a page has at most.
 pub const PAGE: usize = 1400;

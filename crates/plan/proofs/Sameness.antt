@@ -1,12 +1,12 @@
 -- Sameness: rows that are the same show the same.
 -- Assumes nothing.
 use mathlib.Core.Path.{◌≡◌, refl, sym, ap, ◌∙◌}
-use mathlib.Core.List.{List, [], ◌∷◌}
+use mathlib.Core.List.{List, ◌∷◌}
 use Prim.Native.Nat.{ℕ, zero, suc, ◌+◌, ◌*◌, ◌≤◌, ◌<◌}
 use native.Mathlib.Omega.{arith}
 use lib.ListN.{take, drop, get_or}
 use lib.Seq.{get_or-take}
-use Rattle.paper.specs.Plan.{Row, Slots}
+use Rattle.paper.specs.Plan.{Row}
 use Rattle.paper.specs.Layout.{Span, shown_all}
 use Rattle.plan.specs.Numbers.{stride, saying, span_in, spans_in, spans_of, kind_shown, row_with, show_row, show_rows, SameRows}
 

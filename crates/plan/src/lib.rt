@@ -1,5 +1,7 @@
 // A plan as numbers: the head by value, the rows as records of 48 numbers in a lent slice. specs/Numbers.antt says which plan they show.
 // `rooms` says what the caller lends.
+#![tactic(auto)]
+
 pub mod rooms;
 
 ghost use Rattle.std.specs.Prelude.{◌≡◌, ◌+◌, ◌*◌, ◌≤◌, ◌<◌, [], map, length, get_or};

@@ -11,7 +11,7 @@ use Rattle.paper.specs.Grammar.{Attr}
 use Rattle.paper.specs.Fields.{Kind, code, fields_of}
 use Rattle.paper.specs.Judging.{slots_of}
 use Rattle.sheet.specs.Fold.{needs_w}
-use Rattle.tape.specs.Tape.{header, elem, Holds, ElemAt}
+use Rattle.tape.specs.Tape.{header, Holds}
 use Rattle.quick.specs.Taken.{InsideIn, TagIn}
 use Rattle.quick.specs.Fits.{Fits}
 use Rattle.tape.proofs.TapeLaws.{spans_more}

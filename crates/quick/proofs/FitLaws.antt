@@ -9,16 +9,16 @@ use lib.Dec.{eqb, leb, ltb}
 use lib.ListN.{length, get_or}
 use lib.Seq.{slice, slice-cons, slice_empty}
 use borrow.Author.Tests.{ne_eqb, eq-eqb, eqb-true, eqb-false, ltb-true, ltb-false, lt-ltb, le-ltb, not-false, not-true}
-use Rattle.paper.specs.Lists.{bytes, if, is_empty, same, elem, every, count, number}
+use Rattle.paper.specs.Lists.{bytes, if, is_empty, same, every, count, number}
 use Rattle.paper.specs.Bytes.{is_decoded}
 use Rattle.paper.specs.Grammar.{Attr}
-use Rattle.paper.specs.Fields.{Kind, unknown, MP, P, A, O, S, M, W, R, X, edition, Field, field, version, fields_of, excluded}
-use Rattle.paper.specs.Rules.{keeps, obeys}
+use Rattle.paper.specs.Fields.{Kind, unknown, MP, P, A, O, S, M, W, R, X, edition, field, version, fields_of, excluded}
+use Rattle.paper.specs.Rules.{keeps}
 use Rattle.paper.specs.Plan.{Slots}
-use Rattle.paper.specs.Judging.{names, slots_of, broken, breaks, clash}
+use Rattle.paper.specs.Judging.{names, slots_of, breaks, clash}
 use Rattle.paper.proofs.Small.{no, neither}
 use Rattle.paper.proofs.Small as Small
-use Rattle.fields.specs.Places.{no_field, kind_at}
+use Rattle.fields.specs.Places.{kind_at}
 use Rattle.fields.proofs.TableLaws.{code_back}
 use Rattle.room.proofs.PairLaws.{pairs_at_lem, each_at}
 use Rattle.sheet.specs.Fold.{flaw, needs_w}

@@ -3,7 +3,7 @@
 use mathlib.Core.Path.{◌≡◌, refl, sym, ap, ◌∙◌, subst}
 use mathlib.Core.Bool.{Bool, true, false, ◌&&◌}
 use mathlib.Core.List.{List, [], ◌∷◌, ◌++◌}
-use Prim.Native.Nat.{ℕ, suc, ◌+◌, ◌*◌, ◌-◌, ◌≤◌, ◌<◌}
+use Prim.Native.Nat.{ℕ, ◌+◌, ◌*◌, ◌<◌}
 use native.Mathlib.Omega.{arith}
 use lib.Dec.{eqb, ltb}
 use lib.ListN.{length, get_or, drop}
@@ -13,7 +13,7 @@ use mir.Syntax.{w64}
 use borrow.Author.Tests.{eqb-true, ltb-true, lt-ltb, ne_eqb}
 use Rattle.paper.specs.Lists.{if, until}
 use Rattle.paper.specs.Bytes.{is_space, is_letter}
-use Rattle.paper.specs.Grammar.{Attr, Attrs, Quote, double, single, is_name_byte}
+use Rattle.paper.specs.Grammar.{Attrs, Quote, double, single, is_name_byte}
 use Rattle.paper.specs.Fields.{Kind, fields_of}
 use Rattle.paper.proofs.Small.{below, below_at, both}
 use Rattle.fields.specs.Places.{kind_at, place_in, first_of, count_of}
@@ -23,7 +23,7 @@ use Rattle.quoted.specs.Raws.{RawAt}
 use Rattle.quick.specs.Letters.{letter_table, LetterAt}
 use Rattle.quick.specs.Taken.{attr, NamedAt}
 use Rattle.quoted.proofs.Pieces.{in_it}
-use Rattle.quick.proofs.PassedLaws.{no_nought, letter_in, attr_derives}
+use Rattle.quick.proofs.PassedLaws.{no_nought, attr_derives}
 use Rattle.quick.proofs.TagLaws.{letter_at}
 
 -- ---- the table

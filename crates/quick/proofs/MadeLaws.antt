@@ -1,21 +1,21 @@
 -- MadeLaws: the tags of a page up to a place: in the grammar, in the state, and on the tape; and the page at its end.
 -- Assumes nothing.
 use mathlib.Core.Path.{◌≡◌, refl, sym, ap, ◌∙◌, subst}
-use mathlib.Core.Bool.{Bool, true, false}
+use mathlib.Core.Bool.{Bool, false}
 use mathlib.Core.List.{List, [], ◌∷◌, ◌++◌, append_assoc, append-nil}
 use Prim.Native.Nat.{ℕ, ◌+◌, ◌*◌, ◌-◌, ◌≤◌, ◌<◌}
 use native.Mathlib.Omega.{arith}
 use lib.ListN.{length, get_or, take, drop}
 use lib.Seq.{slice}
-use Rattle.paper.specs.Lists.{if, until}
+use Rattle.paper.specs.Lists.{until}
 use Rattle.paper.specs.Bytes.{is_space}
-use Rattle.paper.specs.Grammar.{Attr, Tag, start, end, Rest, Page, Name, placed}
-use Rattle.paper.specs.Fields.{Kind, code, fields_of}
+use Rattle.paper.specs.Grammar.{Tag, start, end, Rest, Page, placed}
+use Rattle.paper.specs.Fields.{fields_of}
 use Rattle.paper.specs.Judging.{Fault, slots_of, sheet, judge}
 use Rattle.fields.specs.Places.{kind_at}
 use Rattle.fields.proofs.TableLaws.{code_back}
 use Rattle.markup.specs.Walk.{tags_at}
-use Rattle.sheet.specs.Fold.{St, outside, kind_under, kids_of, barred, full, opened, closed, parent, finished, judge_fold, fold_page}
+use Rattle.sheet.specs.Fold.{St, outside, kind_under, kids_of, barred, full, opened, closed, finished, judge_fold, fold_page}
 use Rattle.sheet.specs.Judged.{st_of, Sound}
 use Rattle.sheet.specs.Content.{kind_named, content_of}
 use Rattle.sheet.specs.declared.state.State.{State}
@@ -23,8 +23,7 @@ use Rattle.sheet.proofs.FoldJudge.{fold_start}
 use Rattle.sheet.proofs.FoldContent.{fold_sheet}
 use Rattle.sheet.proofs.JudgeLaws.{on_end, on_nothing}
 use Rattle.quick.specs.Passed.{InsideAt, parent_of, open_names, NameAt, PageAt}
-use Rattle.tape.specs.Tape.{header, Elem, elem, starts_of, elems_of, sheet_by, ElemAt, Lies, Taped, Kept, Makes}
-use Rattle.quoted.specs.Valued.{Grown}
+use Rattle.tape.specs.Tape.{header, Elem, elem, starts_of, elems_of, sheet_by, ElemAt, Lies, Makes}
 use Rattle.quick.specs.Taken.{TagIn}
 use Rattle.quick.specs.Stepped.{StepIn, EndAt, On}
 use Rattle.tape.proofs.TapeLaws.{lies_more, lies_up, starts_append, sheet_by_lem}

@@ -1,23 +1,22 @@
 -- SlotLaws: one attribute more on the tape.
 -- Assumes nothing.
 use mathlib.Core.Path.{◌≡◌, refl, sym, ap, ◌∙◌, subst}
-use mathlib.Core.Bool.{Bool, true, false, not, ◌||◌}
+use mathlib.Core.Bool.{Bool, true, false, not}
 use mathlib.Core.List.{List, [], ◌∷◌, ◌++◌, append_assoc, append-nil}
 use Prim.Native.Nat.{ℕ, zero, suc, ◌+◌, ◌*◌, ◌≤◌, ◌<◌}
-use native.Mathlib.Nat.{add-zero}
 use native.Mathlib.Omega.{arith}
 use lib.Dec.{ltb}
 use lib.ListN.{length, get_or, set, take, drop, length-set}
 use lib.Seq.{slice, slice_empty, slice-cons, take-set-le}
 use borrow.Author.Tests.{eq-eqb, lt-ltb, ltb-true, ltb-false}
-use Rattle.paper.specs.Lists.{if, until, All, elem, twice, every}
+use Rattle.paper.specs.Lists.{until, All, elem, twice, every}
 use Rattle.paper.specs.Bytes.{is_space}
 use Rattle.paper.specs.Grammar.{Attr, Attrs, space, Space}
 use Rattle.paper.specs.Values.{value}
 use Rattle.paper.specs.Fields.{Kind, Field, fields_of}
 use Rattle.paper.specs.Rules.{is_zero, settle}
 use Rattle.paper.specs.Plan.{Slots}
-use Rattle.paper.specs.Judging.{names, slots_of, letters_of, breaks, broken}
+use Rattle.paper.specs.Judging.{names, slots_of, breaks, broken}
 use Rattle.paper.proofs.Small.{no, neither, if_same}
 use Rattle.paper.proofs.Element.{distinct}
 use Rattle.fields.specs.Places.{no_field, place_in, first_of, field_at, count_of}

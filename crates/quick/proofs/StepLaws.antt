@@ -1,30 +1,30 @@
 -- StepLaws: one start tag more: in the grammar, in the state, and on the tape.
 -- Assumes nothing.
 use mathlib.Core.Path.{◌≡◌, refl, sym, ap, ◌∙◌, subst}
-use mathlib.Core.Bool.{Bool, true, false}
+use mathlib.Core.Bool.{Bool, false}
 use mathlib.Core.List.{List, [], ◌∷◌, ◌++◌}
-use Prim.Native.Nat.{ℕ, ◌+◌, ◌*◌, ◌-◌, ◌≤◌, ◌<◌}
+use Prim.Native.Nat.{ℕ, ◌+◌, ◌-◌, ◌≤◌, ◌<◌}
 use native.Mathlib.Omega.{arith}
 use lib.Dec.{eqb}
-use lib.ListN.{length, get_or, take, drop, length-drop}
+use lib.ListN.{length, get_or, drop, length-drop}
 use lib.Seq.{slice}
 use borrow.Author.Tests.{eqb-true}
 use Rattle.paper.specs.Lists.{until}
 use Rattle.paper.specs.Bytes.{is_space}
 use Rattle.paper.specs.Grammar.{Attr, Tag, start, end, Rest, Name, placed}
 use Rattle.paper.specs.Fields.{Kind, code, fields_of}
-use Rattle.paper.specs.Judging.{Fault, names, slots_of}
+use Rattle.paper.specs.Judging.{slots_of}
 use Rattle.paper.proofs.Small.{below_at}
 use Rattle.fields.specs.Places.{kind_at}
 use Rattle.fields.proofs.TableLaws.{code_back}
-use Rattle.sheet.specs.Fold.{St, given, kind_under, barred, strange, opened, closed, parent, judge_fold}
+use Rattle.sheet.specs.Fold.{St, kind_under, barred, opened, closed, parent, judge_fold}
 use Rattle.sheet.specs.Judged.{st_of, Sound}
 use Rattle.sheet.specs.Content.{kind_named}
 use Rattle.sheet.specs.declared.state.State.{State}
 use Rattle.sheet.proofs.FoldJudge.{fold_start}
 use Rattle.sheet.proofs.JudgeLaws.{on_end}
-use Rattle.quick.specs.Passed.{InsideAt, parent_of, open_names, Kid}
-use Rattle.tape.specs.Tape.{header, Elem, elem, elem_of, starts_of, ElemAt, Lies}
+use Rattle.quick.specs.Passed.{InsideAt, parent_of, Kid}
+use Rattle.tape.specs.Tape.{Elem, elem, starts_of, ElemAt, Lies}
 use Rattle.quick.specs.Taken.{TagIn}
 use Rattle.quick.specs.Stepped.{StepIn}
 use Rattle.quick.proofs.TagLaws.{behind, byte_at, letter_at, opens, shuts}

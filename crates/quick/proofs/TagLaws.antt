@@ -1,16 +1,15 @@
 -- TagLaws: tags behind each other, by the grammar's constructors.
 -- Assumes nothing.
 use mathlib.Core.Path.{◌≡◌, refl, sym, ap, ◌∙◌}
-use mathlib.Core.Bool.{Bool, true, false}
-use mathlib.Core.List.{List, [], ◌∷◌, ◌++◌, append_assoc, append-nil}
-use Prim.Native.Nat.{ℕ, suc, ◌+◌, ◌-◌, ◌≤◌, ◌<◌}
+use mathlib.Core.List.{List, [], ◌∷◌, ◌++◌}
+use Prim.Native.Nat.{ℕ, suc, ◌+◌, ◌≤◌, ◌<◌}
 use native.Mathlib.Numerals.{add-one}
 use native.Mathlib.Omega.{arith}
 use lib.ListN.{length, get_or, take, drop, take-append-drop, drop_of_length-le}
 use lib.Seq.{slice, slice_empty, slice-cons, drop-cons, drop-append-le, length-take-le}
 use Rattle.paper.specs.Lists.{until, All}
-use Rattle.paper.specs.Bytes.{is_space, is_letter}
-use Rattle.paper.specs.Grammar.{Tag, start, end, Rest, Page, space, bare, full, close, done, Space, Name, is_name_byte}
+use Rattle.paper.specs.Bytes.{is_space}
+use Rattle.paper.specs.Grammar.{Tag, start, end, Rest, Page, space, bare, full, close, done, Space, Name}
 use Rattle.fields.specs.Places.{kind_at}
 use Rattle.sheet.specs.Fold.{kind_under, kids_of}
 use Rattle.sheet.specs.Content.{kind_named}

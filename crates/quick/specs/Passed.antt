@@ -1,6 +1,6 @@
 -- Passed: parts of a page that are surely well-formed, told by the grammar: whatever may follow, may follow them.
 -- Assumes nothing.
-use Rattle.std.specs.Prelude.{◌≡◌, true, false, List, [], ◌∷◌, ◌++◌, ℕ, ◌≤◌, ◌<◌, eqb, ltb, length}
+use Rattle.std.specs.Prelude.{◌≡◌, true, false, List, [], ◌∷◌, ℕ, ◌≤◌, ◌<◌, eqb, ltb, length}
 use Rattle.std.proofs.Math.Seq.{slice}
 use Rattle.paper.specs.Lists.{if}
 use Rattle.paper.specs.Bytes.{is_letter}

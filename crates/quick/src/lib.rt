@@ -1,4 +1,6 @@
 // The quick way through a page: through the attributes of a tag, and through the tags, onto the tape.
+#![tactic(auto)]
+
 pub mod attrs;
 pub mod fits;
 mod letters;

@@ -1,24 +1,24 @@
 -- CodedLaws: odd bytes and references by what they stand for, and a value decoded piece by piece.
 -- Assumes nothing.
 use mathlib.Core.Path.{◌≡◌, refl, sym, ap, ◌∙◌, subst}
-use mathlib.Core.Bool.{Bool, true, false, not, ◌&&◌, ◌||◌}
+use mathlib.Core.Bool.{Bool, true, false, not, ◌||◌}
 use mathlib.Core.List.{List, [], ◌∷◌, ◌++◌, append_assoc, append-nil}
 use Prim.Native.Nat.{ℕ, suc, ◌+◌, ◌-◌, ◌≤◌, ◌<◌}
 use native.Mathlib.Numerals.{add-one}
 use native.Mathlib.Omega.{arith}
-use lib.Dec.{eqb, leb, ltb}
+use lib.Dec.{eqb, ltb}
 use lib.ListN.{length, get_or, take, drop, set, length-append, length-take, length-drop}
 use lib.Seq.{slice, slice_empty, slice-cons, take_at, drop_at, take-take, length-take-le, length-slice}
 use borrow.Author.Tests.{eqb-true, ne_eqb, not-true, ltb-true, ltb-false}
 use Rattle.paper.specs.Lists.{if, every, count, until, All, bytes, same, number}
 use Rattle.paper.specs.Bytes.{is_decoded, is_digit}
 use Rattle.paper.specs.Grammar.{Pass, Some, is_hex, Ref, amp, lt, gt, quot, apos, dec, hex, Raw, end, plain, ref, Quote, double, single}
-use Rattle.paper.specs.Values.{text, cr, At, decode, cut, value, refers, mark, hex_number}
+use Rattle.paper.specs.Values.{text, cr, At, decode, cut, refers, mark, hex_number}
 use Rattle.paper.proofs.Small.{no, both, every_append}
 use Rattle.room.specs.Laid.{laid}
 use Rattle.room.proofs.LaidLaws.{set_laid}
 use Rattle.quoted.specs.Plain.{ordinary}
-use Rattle.quoted.specs.Raws.{rare, RefAt, RawAt}
+use Rattle.quoted.specs.Raws.{rare, RefAt}
 use Rattle.quoted.specs.Coded.{OddAt, CodedAt}
 use Rattle.quoted.proofs.PlainLaws.{all_of, decoded_before}
 use Rattle.quoted.proofs.ValueLaws.{ordinary_decoded, ordinary_whole}

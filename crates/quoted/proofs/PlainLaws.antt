@@ -11,10 +11,10 @@ use lib.ListN.{length, get_or, take, drop}
 use lib.Seq.{slice, take-suc, take-add, drop-append-le, length-take-le, slice_empty}
 use borrow.Author.Tests.{leb-true, not-true, not-false, ne_eqb}
 use Rattle.paper.specs.Lists.{if, until, All}
-use Rattle.paper.specs.Bytes.{is_decoded, is_space, is_allowed}
+use Rattle.paper.specs.Bytes.{is_decoded}
 use Rattle.paper.specs.Grammar.{Pass, Quote, double, single, Raw, end, plain, is_plain}
 use Rattle.paper.specs.Values.{text, decode, keep, cut, value}
-use Rattle.paper.proofs.Small.{both, no}
+use Rattle.paper.proofs.Small.{both}
 use Rattle.paper.proofs.Table.{at}
 use Rattle.markup.proofs.WalkLaws.{take_drop}
 use Rattle.room.proofs.Runs.{run_ends, run_on, run_over}

@@ -2,16 +2,16 @@
 -- Assumes nothing.
 use mathlib.Core.Path.{◌≡◌, refl, sym, ap, ◌∙◌}
 use mathlib.Core.Bool.{Bool, true, false, ◌||◌}
-use mathlib.Core.List.{List, [], ◌∷◌, ◌++◌, append_assoc, append-nil}
+use mathlib.Core.List.{List, [], ◌∷◌, ◌++◌, append-nil}
 use Prim.Native.Nat.{ℕ, suc, ◌+◌, ◌≤◌, ◌<◌}
 use native.Mathlib.Omega.{arith}
 use lib.Dec.{eqb, leb, ltb}
 use lib.ListN.{length, get_or, drop}
 use lib.Seq.{slice, slice-cons}
 use borrow.Author.Tests.{eqb-true, le-leb, lt-leb, ltb-true, ltb-false}
-use Rattle.paper.specs.Lists.{bytes, until, All}
+use Rattle.paper.specs.Lists.{until, All}
 use Rattle.paper.specs.Bytes.{is_allowed, is_digit}
-use Rattle.paper.specs.Grammar.{Pass, Some, is_hex, Ref, amp, lt, gt, quot, apos, dec, hex, Raw, end, plain, ref, is_plain, Quote}
+use Rattle.paper.specs.Grammar.{Pass, Some, is_hex, Ref, dec, hex, Raw, plain, is_plain, Quote}
 use Rattle.paper.proofs.Small.{no}
 use Rattle.quoted.specs.Plain.{ordinary}
 use Rattle.quoted.specs.Raws.{numeral, rare, RefAt}

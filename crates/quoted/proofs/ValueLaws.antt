@@ -2,13 +2,13 @@
 -- Assumes nothing.
 use mathlib.Core.Path.{◌≡◌, refl, sym, ap, ◌∙◌}
 use mathlib.Core.Bool.{Bool, true, false, not, ◌&&◌}
-use mathlib.Core.List.{List, [], ◌∷◌, ◌++◌}
-use Prim.Native.Nat.{ℕ, zero, suc, ◌+◌, ◌-◌, ◌≤◌, ◌<◌}
+use mathlib.Core.List.{List, [], ◌∷◌}
+use Prim.Native.Nat.{ℕ, ◌+◌, ◌-◌, ◌≤◌, ◌<◌}
 use native.Mathlib.Omega.{arith}
-use lib.Dec.{eqb, leb, ltb}
-use lib.ListN.{length, take, drop, get_or}
-use lib.Seq.{slice, slice_empty, length-slice, length-take-le, take-append_seam, take-append-le, drop-append-le, take_at, take-add}
-use borrow.Author.Tests.{le-leb, lt-ltb, le-ltb, ltb-true, ltb-false}
+use lib.Dec.{ltb}
+use lib.ListN.{length}
+use lib.Seq.{slice, slice_empty}
+use borrow.Author.Tests.{lt-ltb, le-ltb, ltb-true, ltb-false}
 use Rattle.paper.specs.Lists.{if, every, count, is_empty, All}
 use Rattle.paper.specs.Bytes.{is_decoded}
 use Rattle.paper.specs.Grammar.{Pass}
@@ -21,8 +21,8 @@ use Rattle.fields.specs.Places.{field_at}
 use Rattle.room.proofs.Parts.{part_empty}
 use Rattle.quoted.specs.Plain.{ordinary, Plainly}
 use Rattle.quoted.specs.Raws.{RawAt}
-use Rattle.tape.specs.Tape.{aside, shown_in, Span}
-use Rattle.quoted.specs.Valued.{Valued, Grown}
+use Rattle.tape.specs.Tape.{aside, shown_in}
+use Rattle.quoted.specs.Valued.{Valued}
 use Rattle.quoted.proofs.PlainLaws.{ordinary_text}
 
 -- ---- absent or not

@@ -1,4 +1,6 @@
 // One value between quotes, on the quick way: where its ordinary bytes end, and the value that they are; a value with odd bytes, decoded; and whether it is fine by its field.
+#![tactic(auto)]
+
 pub mod coded;
 mod odd;
 pub mod raw;

@@ -14,7 +14,7 @@ use borrow.Author.Tests.{ne_eqb, eq-eqb, lt-ltb, le-ltb, ltb-true, ltb-false, le
 use Rattle.paper.specs.Lists.{bytes, if, same, is_empty, every, number, count}
 use Rattle.paper.specs.Bytes.{is_decoded}
 use Rattle.paper.specs.Grammar.{Attr}
-use Rattle.paper.specs.Fields.{Kind, unknown, MP, P, A, O, S, M, W, R, X, code, is, Rule, page_no, Field, field, edition, fields_of, excluded, Pair}
+use Rattle.paper.specs.Fields.{Kind, unknown, MP, P, A, O, S, M, W, R, X, code, Rule, page_no, Field, field, fields_of, excluded, Pair}
 use Rattle.paper.specs.Values.{value}
 use Rattle.paper.specs.Rules.{settle, is_zero, keeps, obeys}
 use Rattle.paper.specs.Plan.{Slots, slot}

@@ -4,11 +4,10 @@ use mathlib.Core.Path.{◌≡◌, refl, ap, sym, ◌∙◌}
 use mathlib.Core.Bool.{Bool, true, false}
 use mathlib.Core.Option.{Option, none, some}
 use mathlib.Core.List.{List, [], ◌∷◌}
-use Prim.Native.Nat.{ℕ, ◌+◌, ◌-◌, ◌≤◌, ◌<◌}
+use Prim.Native.Nat.{ℕ, ◌≤◌, ◌<◌}
 use native.Mathlib.Omega.{arith}
 use lib.Dec.{eqb}
-use lib.ListN.{length, take, drop}
-use lib.Seq.{slice}
+use lib.ListN.{length}
 use borrow.Author.Tests.{ne_eqb, lt-ltb, le-ltb, le-leb, lt-leb}
 use Rattle.paper.specs.Lists.{if, every}
 use Rattle.paper.specs.Bytes.{is_allowed, first_refused}
@@ -21,7 +20,6 @@ use Rattle.paper.proofs.Exact.{exact}
 use Rattle.markup.specs.Extent.{extent_by, extent_of}
 use Rattle.markup.specs.Walk.{tags_at, ended}
 use Rattle.markup.specs.declared.scan.Extent.TheVariants.{Whole, Good}
-use Rattle.markup.proofs.WalkLaws.{take_drop}
 use Rattle.markup.proofs.Walked.{walked}
 use Rattle.fields.specs.Places.{kind_at}
 use Rattle.fields.proofs.TableLaws.{kind_back}

@@ -5,7 +5,7 @@ use Rattle.std.proofs.Math.Option.{Option, none, some}
 use Rattle.std.specs.Prelude.{List, [], ◌∷◌, ◌++◌, ℕ, drop}
 use Rattle.paper.specs.Lists.{bytes, if, number}
 use Rattle.paper.specs.Grammar.{Attr, Tag, start, end}
-use Rattle.paper.specs.Fields.{Kind, MP, P, A, O, S, M, W, R, X, is, fields_of, named, kinds}
+use Rattle.paper.specs.Fields.{Kind, MP, P, A, O, W, is, fields_of, named, kinds}
 use Rattle.paper.specs.Plan.{Slots, Head, Row, slot, blank}
 use Rattle.paper.specs.Judging.{slots_of, item, row_of, or, Sheet}
 

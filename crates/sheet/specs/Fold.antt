@@ -4,7 +4,7 @@
 use Rattle.std.specs.Prelude.{Bool, false, not, ◌&&◌, ◌||◌, List, [], ◌∷◌, ℕ, suc, eqb, leb, ltb}
 use Rattle.paper.specs.Lists.{bytes, if, is_empty, elem, twice, every}
 use Rattle.paper.specs.Grammar.{Attr, Tag, start, end}
-use Rattle.paper.specs.Fields.{Kind, unknown, MP, P, A, O, S, M, W, code, is, fields_of, excluded, named, children, rank_of, about, most_of}
+use Rattle.paper.specs.Fields.{Kind, unknown, MP, P, A, M, W, code, is, fields_of, excluded, named, children, rank_of, about, most_of}
 use Rattle.paper.specs.Plan.{Slots, slot}
 use Rattle.paper.specs.Judging.{Fault, names, slots_of, letters_of, broken, missing, clash, mp_version, mp_over, mp_half, lower, Sheet, Judged, refused, sheet}
 use Rattle.fields.specs.Places.{kind_at}

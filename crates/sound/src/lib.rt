@@ -1,6 +1,8 @@
 // Refusal 13 on numbers: whether a plan's head and rows, as numbers that a caller hands in, are sound.
 //
 // The contracts cite specs/Sound.antt. A value is judged in `values`, an element's fields in `elements`, a head in `heads`, a row's record in `records`.
+#![tactic(auto)]
+
 ghost use Rattle.std.specs.Prelude.{◌≡◌, ◌*◌, ◌≤◌, length};
 ghost use Rattle.plan.specs.Numbers.{stride};
 ghost use Rattle.sound.specs.Sound.{head_sound, first_bad_in};

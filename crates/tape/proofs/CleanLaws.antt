@@ -12,7 +12,7 @@ use Rattle.paper.specs.Grammar.{Attr, Tag, start, end}
 use Rattle.paper.specs.Fields.{Kind, unknown, is, fields_of, excluded}
 use Rattle.paper.specs.Plan.{Slots}
 use Rattle.paper.specs.Judging.{Fault, names, slots_of, missing, clash, mp_version, mp_half, lower}
-use Rattle.paper.proofs.Small.{no, neither}
+use Rattle.paper.proofs.Small.{neither}
 use Rattle.sheet.specs.Fold.{given, St, kids_of, kind_under, full, barred, strange, amiss, unfit, flaw, opened, closed, finished, judge_fold}
 use Rattle.sheet.specs.Content.{kind_named}
 use Rattle.sheet.proofs.FoldContent.{kind_named_lem}

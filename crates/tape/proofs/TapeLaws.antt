@@ -2,23 +2,22 @@
 -- Assumes nothing.
 use mathlib.Core.Path.{◌≡◌, refl, ap, ◌∙◌}
 use mathlib.Core.Bool.{Bool, true, false}
-use mathlib.Core.Option.{Option, none, some}
+use mathlib.Core.Option.{some}
 use mathlib.Core.List.{List, [], ◌∷◌, ◌++◌}
 use Prim.Native.Nat.{ℕ, zero, suc, ◌+◌, ◌*◌, ◌-◌, ◌≤◌}
 use native.Mathlib.Omega.{arith}
 use lib.Dec.{ltb}
 use lib.ListN.{length, take, drop, get_or}
 use lib.Seq.{slice}
-use borrow.Author.Tests.{ltb-true, ltb-false}
+use borrow.Author.Tests.{ltb-false}
 use Rattle.paper.specs.Lists.{if}
-use Rattle.paper.specs.Grammar.{Attr, Tag, start, end}
+use Rattle.paper.specs.Grammar.{Tag, start, end}
 use Rattle.paper.specs.Fields.{Kind, MP, P, A, O, W, is, fields_of}
-use Rattle.paper.specs.Plan.{Slots, Row}
-use Rattle.paper.specs.Judging.{slots_of, item, row_of, Sheet}
+use Rattle.paper.specs.Judging.{slots_of}
 use Rattle.paper.proofs.Told.{is_eq}
 use Rattle.room.proofs.Alike.{Agree, take_more}
 use Rattle.sheet.specs.Content.{kind_named, attrs_of_first, slots_from, part_from, ws_from, rows_from, head_from, content_of}
-use Rattle.tape.specs.Tape.{Elem, elem, elem_of, starts_of, part_by, ws_by, rows_by, head_by, sheet_by, header, aside, shown_in, values_at, Span, Spans, ElemAt, Lies}
+use Rattle.tape.specs.Tape.{Elem, starts_of, part_by, ws_by, rows_by, head_by, sheet_by, header, aside, shown_in, values_at, Span, Spans, ElemAt, Lies}
 
 -- ---- what elements say
 

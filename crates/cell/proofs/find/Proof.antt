@@ -6,10 +6,9 @@ use Prim.Native.Nat.{◌*◌, ◌≤◌}
 use native.Mathlib.Omega.{arith}
 use lib.ListN.{length}
 use Rattle.paper.specs.Lists.{if}
-use Rattle.paper.proofs.Small.{no_not}
 use Rattle.cell.specs.Numbered.{field_of, row_there}
 use Rattle.cell.specs.Found.{none_found, found}
-use Rattle.cell.proofs.Told.{not_no, there, not_there, other_kind, found_held}
+use Rattle.cell.proofs.Told.{there, not_there, other_kind, found_held}
 use borrow.Author.Rules.{rules}
 use Rattle.cell.proofs.find.Statement.{statement}
 use Rattle.cell.proofs.find.Tie as tie

@@ -1,8 +1,7 @@
 -- `marks::first_refused` meets its contract: what it answers for the whole is what it passed and the answer for what is left.
 -- Assumes nothing.
-use mathlib.Core.Path.{◌≡◌, refl, sym, ◌∙◌}
-use mathlib.Core.List.{List}
-use Prim.Native.Nat.{ℕ, ◌+◌, ◌-◌, ◌≤◌}
+use mathlib.Core.Path.{◌≡◌, sym, ◌∙◌}
+use Prim.Native.Nat.{◌+◌, ◌-◌, ◌≤◌}
 use native.Mathlib.Omega.{arith}
 use lib.ListN.{length, get_or, drop}
 use borrow.Author.Rules.{rules}
@@ -11,8 +10,6 @@ use Rattle.marks.proofs.ClassList.{classes}
 use Rattle.marks.proofs.ClassLaws.{entry, zero_refused, other_allowed, hit, miss, done}
 use Rattle.marks.proofs.first_refused.Statement.{statement}
 use Rattle.marks.proofs.first_refused.Tie as tie
-use Rattle.marks.proofs.first_refused.Reads as reads
-use Rattle.marks.proofs.first_refused.Lts as lts
 
 abbrev invariant-loop : tie.invariant-loop-i
 invariant-loop s classes i₀ i = (i ≤ length s) × (first_refused s ≡ i + first_refused (drop i s))

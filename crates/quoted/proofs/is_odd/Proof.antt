@@ -1,12 +1,11 @@
 -- `quoted::is_odd` meets its contract: the table's entry tells.
 -- Assumes nothing.
 use mathlib.Core.Path.{◌≡◌, ap, ◌∙◌}
-use mathlib.Core.Bool.{Bool, not}
+use mathlib.Core.Bool.{not}
 use mathlib.Core.List.{List}
 use Prim.Native.Nat.{ℕ, ◌<◌}
 use lib.Dec.{eqb}
 use lib.ListN.{get_or}
-use native.Mathlib.Omega.{arith}
 use borrow.Author.Rules.{rules}
 use Rattle.quoted.specs.Plain.{ordinary, odd_table}
 use Rattle.quoted.proofs.PlainLaws.{entry, told}

@@ -1,6 +1,6 @@
 -- `quoted::plain_value` meets its contract: the run of ordinary bytes that a quote ends is a plain value.
 -- Assumes nothing.
-use mathlib.Core.Path.{◌≡◌, refl, sym}
+use mathlib.Core.Path.{refl}
 use borrow.Author.Rules.{rules}
 use Rattle.quoted.proofs.PlainLaws.{plainly}
 use Rattle.quoted.proofs.plain_value.Statement.{statement}

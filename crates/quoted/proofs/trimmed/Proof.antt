@@ -1,10 +1,9 @@
 -- `quoted::trimmed` meets its contract: what is cut so far makes no difference to the cut.
 -- Assumes nothing.
-use mathlib.Core.Path.{◌≡◌, refl, sym, ap, ◌∙◌}
-use Prim.Native.Nat.{◌+◌, ◌-◌, ◌≤◌}
-use native.Mathlib.Omega.{arith}
-use lib.ListN.{length, get_or}
-use lib.Seq.{slice, slice_empty}
+use mathlib.Core.Path.{◌≡◌, refl, ◌∙◌}
+use Prim.Native.Nat.{◌-◌, ◌≤◌}
+use lib.ListN.{length}
+use lib.Seq.{slice}
 use borrow.Author.Rules.{rules}
 use Rattle.paper.specs.Values.{cut}
 use Rattle.quoted.proofs.PlainLaws.{blank_cut_to, mark_kept_to, nothing_cut}

@@ -4,7 +4,6 @@ use mathlib.Core.Path.{◌≡◌, sym, ◌∙◌}
 use Prim.Native.Nat.{◌+◌, ◌*◌, ◌-◌, ◌≤◌}
 use native.Mathlib.Omega.{arith}
 use lib.ListN.{drop}
-use borrow.Author.Tests.{not-true, not-false}
 use Rattle.sound.specs.Sound.{first_bad_in}
 use Rattle.sound.proofs.RecordLaws.{part_sound, rows_start, bad_here, sound_here, rows_done}
 use borrow.Author.Rules.{rules}

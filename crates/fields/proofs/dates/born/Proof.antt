@@ -1,7 +1,6 @@
 -- `fields::dates::born` meets its contract: a full date, else a partial one.
 -- Assumes nothing.
 use mathlib.Core.Path.{sym, ◌∙◌}
-use Prim.Native.Nat.{◌-◌}
 use borrow.Author.Rules.{rules}
 use Rattle.fields.proofs.dates.born.Statement.{statement}
 use Rattle.fields.proofs.dates.born.Tie as tie

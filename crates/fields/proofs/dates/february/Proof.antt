@@ -1,7 +1,6 @@
 -- `fields::dates::february` meets its contract: 29 days in a leap year, else 28.
 -- Assumes nothing.
 use mathlib.Core.Path.{sym, ◌∙◌}
-use Prim.Native.Nat.{◌-◌}
 use borrow.Author.Rules.{rules}
 use Rattle.fields.proofs.dates.february.Statement.{statement}
 use Rattle.fields.proofs.dates.february.Tie as tie

@@ -1,7 +1,6 @@
 -- `fields::dates::full_date` meets its contract: a real day, and a late one.
 -- Assumes nothing.
 use mathlib.Core.Path.{sym, ◌∙◌}
-use Prim.Native.Nat.{◌-◌}
 use borrow.Author.Rules.{rules}
 use Rattle.fields.proofs.dates.full_date.Statement.{statement}
 use Rattle.fields.proofs.dates.full_date.Tie as tie

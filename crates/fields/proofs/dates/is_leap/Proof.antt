@@ -1,6 +1,5 @@
 -- `fields::dates::is_leap` meets its contract: the three divisions, one after the other.
 -- Assumes nothing.
-use Prim.Native.Nat.{◌-◌}
 use borrow.Author.Tests.{eq-eqb, ne_eqb}
 use Rattle.fields.proofs.dates.is_leap.Statement.{statement}
 use Rattle.fields.proofs.dates.is_leap.Tie as tie

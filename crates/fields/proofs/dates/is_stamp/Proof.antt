@@ -2,7 +2,6 @@
 -- Assumes nothing.
 use mathlib.Core.Path.{sym, ◌∙◌}
 use mathlib.Core.Bool.{◌&&◌}
-use Prim.Native.Nat.{◌-◌}
 use lib.Dec.{leb}
 use borrow.Author.Rules.{rules}
 use Rattle.paper.specs.Rules.{real_day}

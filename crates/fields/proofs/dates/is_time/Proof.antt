@@ -1,6 +1,5 @@
 -- `fields::dates::is_time` meets its contract: the three tests, one after the other.
 -- Assumes nothing.
-use Prim.Native.Nat.{◌-◌}
 use borrow.Author.Tests.{le-leb, lt-leb}
 use Rattle.fields.proofs.dates.is_time.Statement.{statement}
 use Rattle.fields.proofs.dates.is_time.Tie as tie

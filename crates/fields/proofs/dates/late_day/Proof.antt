@@ -1,7 +1,6 @@
 -- `fields::dates::late_day` meets its contract: the year first, then the month and the day.
 -- Assumes nothing.
 use mathlib.Core.Path.{◌≡◌}
-use Prim.Native.Nat.{◌-◌}
 use native.Mathlib.Omega.{arith}
 use borrow.Author.Tests.{eq-eqb, ne_eqb, lt-ltb, le-ltb}
 use Rattle.fields.proofs.dates.late_day.Statement.{statement}

@@ -1,7 +1,6 @@
 -- `fields::dates::month_days` meets its contract: the list of months is paper's.
 -- Assumes nothing.
 use mathlib.Core.Path.{sym}
-use Prim.Native.Nat.{◌-◌}
 use borrow.Author.Rules.{rules}
 use Rattle.fields.proofs.DateLaws.{no_month, months}
 use Rattle.fields.proofs.dates.month_days.Statement.{statement}

@@ -1,6 +1,5 @@
 -- `fields::dates::partial_date` meets its contract: the day, then the month, then the year.
 -- Assumes nothing.
-use Prim.Native.Nat.{◌-◌}
 use borrow.Author.Tests.{eq-eqb, ne_eqb, le-leb, lt-leb}
 use Rattle.fields.proofs.dates.partial_date.Statement.{statement}
 use Rattle.fields.proofs.dates.partial_date.Tie as tie

@@ -1,6 +1,5 @@
 -- `fields::dates::real_day` meets its contract: the three tests, one after the other.
 -- Assumes nothing.
-use Prim.Native.Nat.{◌-◌}
 use borrow.Author.Rules.{rules}
 use borrow.Author.Tests.{le-leb, lt-leb}
 use Rattle.fields.proofs.dates.real_day.Statement.{statement}

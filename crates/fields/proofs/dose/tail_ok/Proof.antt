@@ -1,7 +1,6 @@
 -- `fields::dose::tail_ok` meets its contract: the cases of what stands behind the first digits.
 -- Assumes nothing.
 use mathlib.Core.Path.{sym, ◌∙◌}
-use Prim.Native.Nat.{◌-◌}
 use borrow.Author.Rules.{rules}
 use Rattle.fields.specs.Sets.{in_set}
 use Rattle.fields.proofs.DoseLaws.{tail_none, tail_short, tail_comma, tail_slash, tail_other, tail_mixed}

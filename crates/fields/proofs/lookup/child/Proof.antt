@@ -1,7 +1,6 @@
 -- `fields::lookup::child` meets its contract: the parent's part of the names, searched for the name's key.
 -- Assumes nothing.
 use mathlib.Core.Path.{refl}
-use Prim.Native.Nat.{◌-◌}
 use native.Mathlib.Omega.{arith}
 use borrow.Author.Rules.{rules}
 use Rattle.paper.specs.Fields.{named}
@@ -12,8 +11,6 @@ use Rattle.fields.proofs.ColumnLaws.{fits_entry, child_within}
 use Rattle.fields.proofs.FoundLaws.{child_found, child_none}
 use Rattle.fields.proofs.lookup.child.Statement.{statement}
 use Rattle.fields.proofs.lookup.child.Tie as tie
-use Rattle.fields.proofs.lookup.find.Reads as find-reads
-use Rattle.fields.proofs.lookup.key.Reads as key_reads
 
 array-read-first : tie.Need-bounds-parent
 array-read-first c = search rules

@@ -1,7 +1,6 @@
 -- `fields::lookup::entry` meets its contract: the bits of a place, taken out.
 -- Assumes nothing.
 use mathlib.Core.Path.{refl}
-use native.Mathlib.Omega.{arith}
 use borrow.Author.Rules.{rules}
 use Rattle.fields.proofs.lookup.entry.Statement.{statement}
 use Rattle.fields.proofs.lookup.entry.Tie as tie

@@ -1,7 +1,6 @@
 -- `fields::lookup::keys` meets its contract: the column holds the letters of paper's table.
 -- Assumes nothing.
 use mathlib.Core.Path.{refl}
-use Prim.Native.Nat.{◌-◌}
 use Rattle.paper.specs.Fields.{fields_of}
 use Rattle.fields.specs.Columns.{key_column}
 use Rattle.fields.proofs.lookup.keys.Statement.{statement}

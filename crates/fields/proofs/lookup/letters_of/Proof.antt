@@ -1,6 +1,5 @@
 -- `fields::lookup::letters_of` meets its contract: the column holds the letters of paper's table.
 -- Assumes nothing.
-use Prim.Native.Nat.{◌-◌}
 use borrow.Author.Rules.{rules}
 use Rattle.paper.specs.Fields.{fields_of}
 use Rattle.fields.specs.Columns.{key_column}

@@ -3,7 +3,6 @@
 use mathlib.Core.Path.{refl}
 use Rattle.paper.specs.Fields.{fields_of}
 use Rattle.fields.specs.Columns.{limit_column}
-use borrow.Author.Rules.{rules}
 use Rattle.fields.proofs.lookup.limits.Statement.{statement}
 use Rattle.fields.proofs.lookup.limits.Tie as tie
 

@@ -1,6 +1,6 @@
 -- `fields::lookup::must_in` meets its contract: the fifth number is 1 where the field must be present.
 -- Assumes nothing.
-use mathlib.Core.Path.{◌≡◌, ap, ◌∙◌}
+use mathlib.Core.Path.{ap, ◌∙◌}
 use Prim.Native.Nat.{ℕ}
 use lib.Dec.{eqb}
 use Rattle.fields.specs.Places.{field_at}

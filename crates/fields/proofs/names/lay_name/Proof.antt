@@ -8,7 +8,6 @@ use lib.ListN.{length, length-set}
 use borrow.Author.Rules.{rules}
 use Rattle.fields.specs.Places.{bytes_of, name_of}
 use Rattle.fields.proofs.NameLaws.{reach, bytes_end, bytes_on, reach_on, laid_at, laid_on, laid_end}
-use Rattle.fields.proofs.NumberLaws.{room}
 use Rattle.fields.proofs.names.lay_name.Statement.{statement}
 use Rattle.fields.proofs.names.lay_name.Tie as tie
 

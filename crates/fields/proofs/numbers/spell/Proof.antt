@@ -6,7 +6,7 @@ use Prim.Native.Nat.{ℕ, ◌+◌, ◌-◌, ◌%◌, ◌≤◌}
 use native.Mathlib.Omega.{arith}
 use lib.ListN.{length, take, drop, length-set}
 use borrow.Author.Rules.{rules}
-use Rattle.fields.proofs.NumberLaws.{room, last_digits, lay_on, lay_front, lay_done}
+use Rattle.fields.proofs.NumberLaws.{last_digits, lay_on, lay_front, lay_done}
 use Rattle.fields.proofs.numbers.spell.Statement.{statement}
 use Rattle.fields.proofs.numbers.spell.Tie as tie
 

@@ -1,7 +1,6 @@
 -- `fields::package_number::nth_digit` meets its contract: zeros on the left, then the number's own digits.
 -- Assumes nothing.
 use mathlib.Core.Path.{sym, ◌∙◌}
-use Prim.Native.Nat.{◌-◌}
 use native.Mathlib.Omega.{arith}
 use borrow.Author.Rules.{rules}
 use Rattle.fields.proofs.PackageLaws.{zero_left, own_right}

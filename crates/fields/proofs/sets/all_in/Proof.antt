@@ -1,6 +1,5 @@
 -- `fields::sets::all_in` meets its contract: all bytes are in the set when the run has no end before theirs.
 -- Assumes nothing.
-use Prim.Native.Nat.{◌-◌}
 use borrow.Author.Rules.{rules}
 use Rattle.fields.specs.Sets.{in_set}
 use Rattle.fields.proofs.SetLaws.{all_from}

@@ -1,6 +1,5 @@
 -- `fields::sets::between` meets its contract: the two tests, one after the other.
 -- Assumes nothing.
-use Prim.Native.Nat.{◌-◌}
 use borrow.Author.Tests.{le-leb, lt-leb}
 use Rattle.fields.proofs.sets.between.Statement.{statement}
 use Rattle.fields.proofs.sets.between.Tie as tie

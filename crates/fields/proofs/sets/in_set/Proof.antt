@@ -1,6 +1,5 @@
 -- `fields::sets::in_set` meets its contract: the sets' names, one after the other.
 -- Assumes nothing.
-use Prim.Native.Nat.{◌-◌}
 use borrow.Author.Rules.{rules}
 use borrow.Author.Tests.{eq-eqb, ne_eqb}
 use Rattle.fields.specs.Sets.{in_set}

@@ -1,7 +1,6 @@
 -- `fields::sets::is_code` meets its contract: either range.
 -- Assumes nothing.
 use mathlib.Core.Path.{sym, ◌∙◌}
-use Prim.Native.Nat.{◌-◌}
 use borrow.Author.Rules.{rules}
 use Rattle.fields.specs.Sets.{in_set}
 use Rattle.fields.proofs.sets.is_code.Statement.{statement}

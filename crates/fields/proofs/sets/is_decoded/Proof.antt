@@ -1,7 +1,6 @@
 -- `fields::sets::is_decoded` meets its contract: either range.
 -- Assumes nothing.
 use mathlib.Core.Path.{sym, ◌∙◌}
-use Prim.Native.Nat.{◌-◌}
 use borrow.Author.Rules.{rules}
 use Rattle.fields.proofs.sets.is_decoded.Statement.{statement}
 use Rattle.fields.proofs.sets.is_decoded.Tie as tie

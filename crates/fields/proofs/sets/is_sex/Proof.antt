@@ -1,6 +1,5 @@
 -- `fields::sets::is_sex` meets its contract: the four tests, one after the other.
 -- Assumes nothing.
-use Prim.Native.Nat.{◌-◌}
 use borrow.Author.Tests.{eq-eqb, ne_eqb}
 use Rattle.fields.specs.Sets.{in_set}
 use Rattle.fields.proofs.sets.is_sex.Statement.{statement}

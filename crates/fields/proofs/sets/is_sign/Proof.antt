@@ -1,7 +1,6 @@
 -- `fields::sets::is_sign` meets its contract: a small letter, or a capital or a digit.
 -- Assumes nothing.
 use mathlib.Core.Path.{sym, ◌∙◌}
-use Prim.Native.Nat.{◌-◌}
 use borrow.Author.Rules.{rules}
 use Rattle.paper.specs.Bytes.{is_digit, is_capital}
 use Rattle.fields.specs.Sets.{in_set}

@@ -1,6 +1,6 @@
 -- `page::content::alike` meets its contract: the counts decide first, then the heads.
 -- Assumes nothing.
-use mathlib.Core.Path.{◌≡◌, sym, ◌∙◌}
+use mathlib.Core.Path.{sym}
 use borrow.Author.Tests.{eq-eqb, ne_eqb}
 use Rattle.page.proofs.content.alike.Statement.{statement}
 use Rattle.page.proofs.content.alike.Tie as tie

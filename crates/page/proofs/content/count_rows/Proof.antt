@@ -1,10 +1,10 @@
 -- `page::content::count_rows` meets its contract: the rows are those counted and those of the elements that are left.
 -- Assumes nothing.
-use mathlib.Core.Path.{◌≡◌, refl, sym, ap, ◌∙◌}
+use mathlib.Core.Path.{◌≡◌, sym, ap, ◌∙◌}
 use mathlib.Core.List.{List}
-use Prim.Native.Nat.{ℕ, ◌+◌, ◌-◌, ◌*◌, ◌≤◌, ◌<◌}
+use Prim.Native.Nat.{ℕ, ◌+◌, ◌-◌, ◌≤◌, ◌<◌}
 use native.Mathlib.Omega.{arith}
-use lib.ListN.{length, get_or}
+use lib.ListN.{length}
 use Rattle.markup.specs.Walk.{tags_at}
 use Rattle.sheet.specs.Content.{rows_from}
 use Rattle.tape.specs.Tape.{Elem, elems_of, rows_by, Lies}

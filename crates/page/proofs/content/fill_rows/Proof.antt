@@ -1,15 +1,15 @@
 -- `page::content::fill_rows` meets its contract: the rows that are to be laid are those laid and those of the elements that are left.
 -- Assumes nothing.
-use mathlib.Core.Path.{◌≡◌, refl, sym, ap, ◌∙◌, subst}
+use mathlib.Core.Path.{sym, ap, ◌∙◌, subst}
 use mathlib.Core.List.{List, [], ◌∷◌}
-use Prim.Native.Nat.{ℕ, ◌+◌, ◌-◌, ◌*◌, ◌≤◌, ◌<◌}
+use Prim.Native.Nat.{ℕ, ◌+◌, ◌-◌, ◌≤◌}
 use native.Mathlib.Omega.{arith}
 use lib.ListN.{length, get_or}
 use Rattle.paper.specs.Fields.{M}
 use Rattle.paper.specs.Plan.{Row}
 use Rattle.paper.specs.Layout.{row_values}
 use Rattle.markup.specs.Walk.{tags_at}
-use Rattle.fields.specs.Places.{kind_at, count_of}
+use Rattle.fields.specs.Places.{kind_at}
 use Rattle.sheet.specs.Content.{rows_from}
 use Rattle.page.specs.Laying.{Room, row_from}
 use Rattle.page.proofs.RowLaws.{plain_ws, Filling, begin_rows, refill, row_room, row_space, row_turn, finish_rows}

@@ -4,7 +4,6 @@ use native.Mathlib.Omega.{arith}
 use Rattle.fields.specs.Places.{kind_at}
 use Rattle.page.proofs.content.find_head.Statement.{statement}
 use Rattle.page.proofs.content.find_head.Tie as tie
-use borrow.Author.Rules.{rules}
 
 part-requires : tie.Need-part-mp-requires
 part-requires c κs = (c.before.before.before.requires, omega arith)

@@ -1,9 +1,9 @@
 -- `page::content::gives_row` meets its contract: by the kind alone, and for a heading by its two values.
 -- Assumes nothing.
-use mathlib.Core.Path.{◌≡◌, refl, sym, ap, ◌∙◌, subst}
+use mathlib.Core.Path.{sym, subst}
 use Prim.Native.Nat.{ℕ, ◌+◌, ◌*◌, ◌≤◌}
 use native.Mathlib.Omega.{arith}
-use lib.ListN.{length, get_or}
+use lib.ListN.{length}
 use Rattle.paper.specs.Fields.{fields_of}
 use Rattle.fields.specs.Places.{kind_at, count_of}
 use Rattle.page.specs.Laying.{gives_row}

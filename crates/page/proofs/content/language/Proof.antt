@@ -1,7 +1,7 @@
 -- `page::content::language` meets its contract.
 -- Assumes nothing.
-use mathlib.Core.Path.{◌≡◌, ap, ◌∙◌}
-use Prim.Native.Nat.{ℕ, ◌+◌}
+use mathlib.Core.Path.{◌∙◌}
+use Prim.Native.Nat.{◌+◌}
 use native.Mathlib.Omega.{arith}
 use Rattle.page.proofs.WalkLaws.{mp_within, mp_value, mp_span, or_empty, or_value}
 use Rattle.page.proofs.content.language.Statement.{statement}

@@ -2,15 +2,15 @@
 -- Assumes nothing.
 use mathlib.Core.Path.{◌≡◌, refl, sym, ap, ◌∙◌}
 use mathlib.Core.List.{List, [], ◌∷◌, ◌++◌}
-use Prim.Native.Nat.{ℕ, ◌+◌, ◌≤◌}
+use Prim.Native.Nat.{ℕ}
 use native.Mathlib.Omega.{arith}
 use lib.ListN.{length}
-use Rattle.paper.specs.Plan.{Head, Slots}
+use Rattle.paper.specs.Plan.{Head}
 use Rattle.paper.specs.Fields.{fields_of}
 use Rattle.markup.specs.Walk.{tags_at}
-use Rattle.fields.specs.Places.{kind_at, field_at, count_of}
+use Rattle.fields.specs.Places.{kind_at, field_at}
 use Rattle.sheet.specs.Content.{head_from}
-use Rattle.page.specs.Laying.{Room, Lays}
+use Rattle.page.specs.Laying.{Room}
 use Rattle.page.proofs.ContentLaws.{room_first, room_behind, relay, reroom, behind, placed_at}
 use Rattle.page.proofs.HeadLaws.{head_full, head_laid, head_spans_lem, patch_is, lang_is, p_room, a_room, o_room}
 use Rattle.tape.specs.Tape.{values_at}

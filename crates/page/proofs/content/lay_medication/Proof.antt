@@ -1,14 +1,13 @@
 -- `page::content::lay_medication` meets its contract: the record is open with the package number, and the values of the M and of its W are laid into it.
 -- Assumes nothing.
-use mathlib.Core.Path.{◌≡◌, refl, sym, ap, ◌∙◌}
-use mathlib.Core.List.{List, [], ◌∷◌}
-use Prim.Native.Nat.{ℕ, ◌+◌, ◌*◌, ◌≤◌}
+use mathlib.Core.List.{List}
+use Prim.Native.Nat.{ℕ, ◌+◌}
 use native.Mathlib.Omega.{arith}
-use lib.ListN.{length, get_or}
+use lib.ListN.{get_or}
 use Rattle.paper.specs.Lists.{concat}
 use Rattle.paper.specs.Plan.{Slots}
 use Rattle.page.proofs.ContentLaws.{room_first, room_behind, reroom}
-use Rattle.tape.specs.Tape.{Elem, ws_by, shown_in, values_at}
+use Rattle.tape.specs.Tape.{ws_by, shown_in, values_at}
 use Rattle.page.proofs.SlotLaws.{values_long}
 use Rattle.page.proofs.WalkLaws.{ws_twice, medication_laid, medication_values}
 use Rattle.page.proofs.content.lay_medication.Statement.{statement}

@@ -1,15 +1,14 @@
 -- `page::content::lay_ws` meets its contract: the W that are to be laid are those laid and those of the elements that are left.
 -- Assumes nothing.
-use mathlib.Core.Path.{◌≡◌, refl, sym, ap, ◌∙◌}
+use mathlib.Core.Path.{◌≡◌, ap}
 use mathlib.Core.List.{List, ◌∷◌}
-use Prim.Native.Nat.{ℕ, ◌+◌, ◌-◌, ◌*◌, ◌≤◌, ◌<◌}
+use Prim.Native.Nat.{ℕ, ◌+◌, ◌-◌, ◌*◌, ◌≤◌}
 use native.Mathlib.Omega.{arith}
-use lib.ListN.{length, get_or}
+use lib.ListN.{length}
 use Rattle.paper.specs.Lists.{concat}
 use Rattle.page.specs.Laying.{Room}
 use Rattle.page.proofs.ContentLaws.{Going, begin, turn, finish, room_left, room_first, reroom, relay, regoing, replaced, going_room}
 use Rattle.tape.specs.Tape.{Elem, ws_by, values_at, Lies}
-use Rattle.page.proofs.SlotLaws.{values_long}
 use Rattle.page.proofs.WalkLaws.{Step, step, no_step, lies_same, w_next, w_lie, no_w_lem, ws_none}
 use Rattle.page.proofs.content.lay_ws.Statement.{statement}
 use Rattle.page.proofs.content.lay_ws.Tie as tie

@@ -1,12 +1,11 @@
 -- `page::content::mp_number` meets its contract.
 -- Assumes nothing.
-use mathlib.Core.Path.{◌≡◌, ap, ◌∙◌}
+use mathlib.Core.Path.{ap, ◌∙◌}
 use native.Mathlib.Omega.{arith}
 use Rattle.paper.specs.Lists.{number}
 use Rattle.page.proofs.WalkLaws.{mp_within, mp_value, mp_span, mp_short}
 use Rattle.page.proofs.content.mp_number.Statement.{statement}
 use Rattle.page.proofs.content.mp_number.Tie as tie
-use borrow.Author.Rules.{rules}
 
 mul-number-in : tie.Need-overflow_mul-k
 mul-number-in c = omega (arith, c.before.before.before.requires.2)

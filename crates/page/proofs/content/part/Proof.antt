@@ -1,10 +1,10 @@
 -- `page::content::part` meets its contract: the first element of the kind is the first of those that are left.
 -- Assumes nothing.
-use mathlib.Core.Path.{◌≡◌, refl, sym, ap, ◌∙◌}
+use mathlib.Core.Path.{◌≡◌, refl}
 use mathlib.Core.List.{List}
-use Prim.Native.Nat.{ℕ, ◌+◌, ◌-◌, ◌*◌, ◌≤◌, ◌<◌}
+use Prim.Native.Nat.{ℕ, ◌+◌, ◌-◌}
 use native.Mathlib.Omega.{arith}
-use lib.ListN.{length, get_or}
+use lib.ListN.{length}
 use Rattle.fields.specs.Places.{kind_at}
 use Rattle.tape.specs.Tape.{Elem, elems_of, part_by, Lies}
 use Rattle.page.proofs.WalkLaws.{Step, step, no_step, part_none, part_here, part_past}

@@ -3,7 +3,6 @@
 use mathlib.Core.Path.{sym}
 use Rattle.fields.specs.Places.{kind_at}
 use Rattle.page.proofs.ContentLaws.{no_row_kind}
-use borrow.Author.Rules.{rules}
 use Rattle.page.proofs.content.row_kind.Statement.{statement}
 use Rattle.page.proofs.content.row_kind.Tie as tie
 

@@ -1,18 +1,14 @@
 -- `page::content::same_head` meets its contract: the parts decide, one after the other.
 -- Assumes nothing.
 use mathlib.Core.Path.{◌≡◌, sym, ◌∙◌}
-use mathlib.Core.Bool.{Bool, true, false}
-use mathlib.Core.List.{List, [], ◌∷◌}
-use Prim.Native.Nat.{ℕ, ◌+◌}
 use native.Mathlib.Omega.{arith}
 use Rattle.paper.specs.Lists.{same}
 use Rattle.paper.specs.Plan.{Head, same_slots}
 use Rattle.paper.specs.Fields.{fields_of}
-use Rattle.paper.proofs.Small.{no_not}
 use Rattle.markup.specs.Walk.{tags_at}
-use Rattle.fields.specs.Places.{kind_at, field_at, count_of}
+use Rattle.fields.specs.Places.{kind_at, field_at}
 use Rattle.sheet.specs.Content.{head_from}
-use Rattle.page.proofs.HeadLaws.{not_false, patch_is, lang_is}
+use Rattle.page.proofs.HeadLaws.{patch_is}
 use Rattle.page.proofs.WalkLaws.{mp_within, ident_values, ident_lie, part_values, part_lie, part_within, other_patch, other_ident, other_lang, other_person, other_author, by_measures, one_same, slots_are, lang_same}
 use Rattle.page.proofs.content.same_head.Statement.{statement}
 use Rattle.page.proofs.content.same_head.Tie as tie

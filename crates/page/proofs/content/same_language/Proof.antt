@@ -1,6 +1,6 @@
 -- `page::content::same_language` meets its contract.
 -- Assumes nothing.
-use mathlib.Core.Path.{◌≡◌, ◌∙◌}
+use mathlib.Core.Path.{◌∙◌}
 use Rattle.page.proofs.SlotLaws.{same_whole}
 use Rattle.page.proofs.content.same_language.Statement.{statement}
 use Rattle.page.proofs.content.same_language.Tie as tie

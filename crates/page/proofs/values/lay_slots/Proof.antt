@@ -1,13 +1,13 @@
 -- `page::values::lay_slots` meets its contract: what is to be laid is what is laid and what the numbers that are left tell.
 -- Assumes nothing.
-use mathlib.Core.Path.{◌≡◌, refl, sym, ap, ◌∙◌, subst}
+use mathlib.Core.Path.{◌≡◌, sym, ap}
 use mathlib.Core.List.{List, [], ◌∷◌}
 use Prim.Native.Nat.{ℕ, ◌+◌, ◌-◌, ◌*◌, ◌≤◌, ◌<◌}
 use native.Mathlib.Omega.{arith}
-use lib.ListN.{length, get_or}
-use Rattle.page.specs.Laying.{Room, Lays}
-use Rattle.page.proofs.ContentLaws.{Going, begin, finish, regoing, relay, reroom}
-use Rattle.tape.specs.Tape.{shown_in, values_at, Spans}
+use lib.ListN.{length}
+use Rattle.page.specs.Laying.{Room}
+use Rattle.page.proofs.ContentLaws.{Going, begin, finish, relay, reroom}
+use Rattle.tape.specs.Tape.{values_at, Spans}
 use Rattle.page.proofs.SlotLaws.{shown_at, spans_next, next_room, next_laid}
 use Rattle.page.proofs.values.lay_slots.Statement.{statement}
 use Rattle.page.proofs.values.lay_slots.Tie as tie

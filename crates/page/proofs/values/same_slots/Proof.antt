@@ -1,16 +1,13 @@
 -- `page::values::same_slots` meets its contract: the values that are left decide.
 -- Assumes nothing.
-use mathlib.Core.Path.{◌≡◌, refl, sym, ap, ◌∙◌}
-use mathlib.Core.Bool.{Bool, true, false}
+use mathlib.Core.Path.{◌≡◌, sym, ◌∙◌}
 use mathlib.Core.List.{List}
 use Prim.Native.Nat.{ℕ, ◌+◌, ◌-◌, ◌*◌, ◌≤◌, ◌<◌}
 use native.Mathlib.Omega.{arith}
-use lib.ListN.{length, get_or}
+use lib.ListN.{length}
 use Rattle.paper.specs.Lists.{same}
 use Rattle.paper.specs.Plan.{same_slots}
-use Rattle.paper.proofs.Small.{no_not}
-use Rattle.page.proofs.HeadLaws.{not_false}
-use Rattle.tape.specs.Tape.{shown_in, values_at, Spans}
+use Rattle.tape.specs.Tape.{values_at, Spans}
 use Rattle.page.proofs.SlotLaws.{shown_at, spans_next, slots_other, slots_same, slots_none, same_whole}
 use Rattle.page.proofs.values.same_slots.Statement.{statement}
 use Rattle.page.proofs.values.same_slots.Tie as tie

@@ -4,7 +4,6 @@ use native.Mathlib.Omega.{arith}
 use Rattle.page.proofs.SlotLaws.{shown_page, shown_side}
 use Rattle.page.proofs.values.value_of.Statement.{statement}
 use Rattle.page.proofs.values.value_of.Tie as tie
-use borrow.Author.Rules.{rules}
 
 sub-result : tie.Need-slice_bounds-result-count
 sub-result c = let p = c.before.requires.inner c.if-a-lt-ASIDE.true in omega (arith, p.0)

@@ -1,12 +1,11 @@
 -- `quick::names::count_in` meets its contract: it stands in the table.
 -- Assumes nothing.
-use mathlib.Core.Path.{◌≡◌, refl, sym, ap, ◌∙◌}
-use Prim.Native.Nat.{◌+◌, ◌*◌, ◌-◌, ◌≤◌, ◌<◌}
+use mathlib.Core.Path.{◌≡◌}
+use Prim.Native.Nat.{◌+◌, ◌*◌}
 use native.Mathlib.Omega.{arith}
-use lib.ListN.{length, get_or}
+use lib.ListN.{get_or}
 use Rattle.fields.specs.Places.{kind_at, count_of}
 use Rattle.fields.proofs.ColumnLaws.{part_within}
-use Rattle.quick.specs.Letters.{letter_table}
 use Rattle.quick.proofs.LetterLaws.{count_entry, entry_low}
 use borrow.Author.Rules.{rules}
 use Rattle.quick.proofs.names.count_in.Statement.{statement}

@@ -1,7 +1,6 @@
 -- `quick::names::field_by` meets its contract: the element's part of the keys, searched for the name's key.
 -- Assumes nothing.
 use mathlib.Core.Path.{◌≡◌, ap, ◌∙◌}
-use Prim.Native.Nat.{◌-◌}
 use native.Mathlib.Omega.{arith}
 use lib.ListN.{length}
 use borrow.Author.Rules.{rules}

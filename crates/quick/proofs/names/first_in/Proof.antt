@@ -1,11 +1,10 @@
 -- `quick::names::first_in` meets its contract: it stands in the table.
 -- Assumes nothing.
-use mathlib.Core.Path.{◌≡◌, refl, sym, ap, ◌∙◌}
-use Prim.Native.Nat.{◌+◌, ◌*◌, ◌-◌, ◌≤◌, ◌<◌}
+use mathlib.Core.Path.{◌≡◌}
+use Prim.Native.Nat.{◌+◌, ◌*◌}
 use native.Mathlib.Omega.{arith}
-use lib.ListN.{length, get_or}
+use lib.ListN.{get_or}
 use Rattle.fields.specs.Places.{kind_at, first_of}
-use Rattle.quick.specs.Letters.{letter_table}
 use Rattle.quick.proofs.LetterLaws.{first_entry, entry_low}
 use borrow.Author.Rules.{rules}
 use Rattle.quick.proofs.names.first_in.Statement.{statement}

@@ -1,12 +1,8 @@
 -- `quick::names::letter_place` meets its contract: `=` and a quote stand behind the letter, and the table tells its place.
 -- Assumes nothing.
-use mathlib.Core.Path.{◌≡◌, refl, sym, ap, ◌∙◌}
-use Prim.Native.Nat.{◌+◌, ◌*◌, ◌-◌, ◌≤◌, ◌<◌}
+use mathlib.Core.Path.{sym, ◌∙◌}
 use native.Mathlib.Omega.{arith}
-use lib.ListN.{length, get_or}
-use Rattle.fields.specs.Places.{kind_at}
-use Rattle.quick.specs.Letters.{letter_table}
-use Rattle.quick.proofs.LetterLaws.{letter_entry, entry_low, letter_found}
+use Rattle.quick.proofs.LetterLaws.{entry_low, letter_found}
 use borrow.Author.Rules.{rules}
 use Rattle.quick.proofs.names.letter_place.Statement.{statement}
 use Rattle.quick.proofs.names.letter_place.Tie as tie

@@ -1,6 +1,6 @@
 -- `quick::pages::put_header` meets its contract: two numbers, and the third behind them.
 -- Assumes nothing.
-use mathlib.Core.Path.{◌≡◌, refl, sym, ap, ◌∙◌}
+use mathlib.Core.Path.{ap}
 use Prim.Native.Nat.{◌+◌}
 use lib.ListN.{set}
 use borrow.Author.Rules.{rules}

@@ -1,11 +1,10 @@
 -- `quick::pages::take_page` meets its contract: whatever tags may follow may follow those passed so far; when nothing is open and nothing is wrong, the page is a sheet.
 -- Assumes nothing.
-use mathlib.Core.Path.{◌≡◌, refl, sym, ap, ◌∙◌}
-use Prim.Native.Nat.{◌+◌, ◌-◌, ◌≤◌, ◌<◌}
+use mathlib.Core.Path.{refl, sym, ap, ◌∙◌}
+use Prim.Native.Nat.{◌+◌, ◌-◌, ◌<◌}
 use native.Mathlib.Omega.{arith}
-use lib.ListN.{length, get_or}
+use lib.ListN.{length}
 use borrow.Author.Rules.{rules}
-use Rattle.sheet.specs.Judged.{fault_of}
 use Rattle.quick.specs.Stepped.{On}
 use Rattle.quoted.proofs.Pieces.{in_it}
 use Rattle.quick.proofs.MadeLaws.{on_here, on_step, on_close, on_done, makes_from}

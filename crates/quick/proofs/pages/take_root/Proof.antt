@@ -1,9 +1,9 @@
 -- `quick::pages::take_root` meets its contract: spaces, the start tag of MP, and its element on the tape.
 -- Assumes nothing.
-use mathlib.Core.Path.{◌≡◌, refl, sym, ap, ◌∙◌}
-use Prim.Native.Nat.{◌+◌, ◌≤◌, ◌<◌}
+use mathlib.Core.Path.{sym, ap, ◌∙◌}
+use Prim.Native.Nat.{◌<◌}
 use native.Mathlib.Omega.{arith}
-use lib.ListN.{length, get_or}
+use lib.ListN.{length}
 use borrow.Author.Rules.{rules}
 use Rattle.fields.specs.Places.{kind_at}
 use Rattle.sheet.specs.Fold.{barred}

@@ -1,13 +1,9 @@
 -- `quick::pages::take_tag` meets its contract: a header, the values behind it, and nothing wrong with them.
 -- Assumes nothing.
-use mathlib.Core.Path.{◌≡◌, refl, sym, ap, ◌∙◌}
-use Prim.Native.Nat.{◌+◌, ◌*◌, ◌≤◌, ◌<◌}
+use mathlib.Core.Path.{refl, sym, ◌∙◌}
 use native.Mathlib.Omega.{arith}
-use lib.ListN.{length}
-use borrow.Author.Rules.{rules}
 use Rattle.fields.specs.Places.{kind_at}
 use Rattle.fields.proofs.TableLaws.{code_back}
-use Rattle.tape.specs.Tape.{Holds}
 use Rattle.quick.proofs.SlotLaws.{so_many}
 use Rattle.quick.proofs.ElemLaws.{holds_wide, tag_in}
 use Rattle.quick.proofs.pages.take_tag.Statement.{statement}

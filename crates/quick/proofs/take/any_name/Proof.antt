@@ -2,7 +2,7 @@
 -- Assumes nothing.
 use mathlib.Core.Path.{◌≡◌, refl, sym, ap, ◌∙◌}
 use mathlib.Core.Bool.{true}
-use Prim.Native.Nat.{◌+◌, ◌≤◌, ◌<◌}
+use Prim.Native.Nat.{◌<◌}
 use native.Mathlib.Omega.{arith}
 use lib.ListN.{length, get_or}
 use lib.Seq.{slice}
@@ -11,7 +11,6 @@ use Rattle.paper.specs.Grammar.{Quote}
 use Rattle.paper.specs.Fields.{fields_of}
 use Rattle.fields.specs.Places.{kind_at, place_in}
 use Rattle.room.proofs.Parts.{part_is}
-use borrow.Author.Tests.{not-false}
 use borrow.Author.Rules.{rules}
 use Rattle.quoted.proofs.Pieces.{in_it}
 use Rattle.quick.proofs.PassedLaws.{no_nought, begins, attr_derives}

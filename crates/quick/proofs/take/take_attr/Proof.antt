@@ -1,14 +1,14 @@
 -- `quick::take::take_attr` meets its contract: a name, a value, and its two numbers put into the slot of its field, which was free.
 -- Assumes nothing.
-use mathlib.Core.Path.{◌≡◌, refl, sym, ap, ◌∙◌, subst}
-use Prim.Native.Nat.{◌+◌, ◌*◌, ◌≤◌, ◌<◌}
+use mathlib.Core.Path.{◌≡◌, refl, sym, ap, ◌∙◌}
+use Prim.Native.Nat.{◌+◌, ◌*◌}
 use native.Mathlib.Omega.{arith}
-use lib.ListN.{length, get_or, set}
+use lib.ListN.{get_or, set}
 use lib.Seq.{slice}
 use Rattle.paper.specs.Fields.{fields_of}
 use Rattle.fields.specs.Places.{kind_at, place_in, first_of}
 use Rattle.fields.proofs.ColumnLaws.{part_within}
-use borrow.Author.Tests.{not-false, eqb-true}
+use borrow.Author.Tests.{eqb-true}
 use borrow.Author.Rules.{rules}
 use Rattle.quick.proofs.SlotLaws.{counted, small_span, valued_by}
 use Rattle.quick.proofs.take.take_attr.Statement.{statement}

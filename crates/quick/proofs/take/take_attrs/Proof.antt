@@ -1,10 +1,10 @@
 -- `quick::take::take_attrs` meets its contract: whatever attributes may follow may follow those read so far, and the tape holds these.
 -- Assumes nothing.
-use mathlib.Core.Path.{◌≡◌, refl, sym, ap, ◌∙◌}
-use Prim.Native.Nat.{◌+◌, ◌*◌, ◌-◌, ◌≤◌, ◌<◌}
+use mathlib.Core.Path.{refl, ◌∙◌}
+use Prim.Native.Nat.{◌-◌}
 use native.Mathlib.Omega.{arith}
-use lib.ListN.{length, get_or}
-use Rattle.fields.specs.Places.{kind_at, count_of}
+use lib.ListN.{length}
+use Rattle.fields.specs.Places.{kind_at}
 use borrow.Author.Rules.{rules}
 use Rattle.quoted.proofs.Pieces.{in_it}
 use Rattle.quick.proofs.SlotLaws.{so_many, HeldIn, held_none, again_in_lem, inside_in, inside_from_lem}

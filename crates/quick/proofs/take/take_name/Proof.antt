@@ -1,9 +1,8 @@
 -- `quick::take::take_name` meets its contract: by the letter, or as any name.
 -- Assumes nothing.
-use mathlib.Core.Path.{◌≡◌, refl, sym, ap, ◌∙◌}
-use Prim.Native.Nat.{◌+◌, ◌*◌, ◌-◌, ◌≤◌, ◌<◌}
+use mathlib.Core.Path.{sym}
+use Prim.Native.Nat.{◌+◌}
 use native.Mathlib.Omega.{arith}
-use lib.ListN.{length, get_or}
 use mathlib.Core.Path.{subst}
 use Rattle.fields.specs.Places.{kind_at}
 use Rattle.quick.specs.Taken.{NamedAt}

@@ -1,6 +1,5 @@
 -- `quoted::coded::breaks_of` meets its contract, by the test that it makes.
 -- Assumes nothing.
-use mathlib.Core.Path.{◌≡◌}
 use borrow.Author.Tests.{eq-eqb, ne_eqb}
 use Rattle.quoted.proofs.coded.breaks_of.Statement.{statement}
 use Rattle.quoted.proofs.coded.breaks_of.Tie as tie

@@ -1,13 +1,13 @@
 -- `quoted::coded::coded_value` meets its contract: what is laid so far, and what is still to be read, make the value.
 -- Assumes nothing.
-use mathlib.Core.Path.{◌≡◌, refl, sym, ap, ◌∙◌}
+use mathlib.Core.Path.{refl, ap, ◌∙◌}
 use mathlib.Core.List.{[], ◌∷◌}
-use Prim.Native.Nat.{◌+◌, ◌*◌, ◌-◌, ◌≤◌, ◌<◌}
+use Prim.Native.Nat.{◌+◌, ◌-◌, ◌<◌}
 use native.Mathlib.Omega.{arith}
-use lib.ListN.{length, get_or}
+use lib.ListN.{length}
 use borrow.Author.Rules.{rules}
 use Rattle.room.proofs.Parts.{part_is}
-use lib.Seq.{slice, length-slice}
+use lib.Seq.{length-slice}
 use Rattle.quoted.proofs.CodedLaws.{Coding, count_low, coding_none, coding_lay, coding_odd, coding_done}
 use Rattle.quoted.proofs.coded.coded_value.Statement.{statement}
 use Rattle.quoted.proofs.coded.coded_value.Tie as tie

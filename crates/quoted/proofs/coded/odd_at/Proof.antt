@@ -1,9 +1,9 @@
 -- `quoted::coded::odd_at` meets its contract: a reference, 13 10, a 13, or a byte that stands for itself or a blank.
 -- Assumes nothing.
-use mathlib.Core.Path.{◌≡◌, refl, sym, ap, ◌∙◌}
-use Prim.Native.Nat.{◌+◌, ◌*◌, ◌-◌, ◌≤◌, ◌<◌}
+use mathlib.Core.Path.{refl, sym, ◌∙◌}
+use Prim.Native.Nat.{◌+◌, ◌<◌}
 use native.Mathlib.Omega.{arith}
-use lib.ListN.{length, get_or}
+use lib.ListN.{length}
 use Rattle.quoted.proofs.Pieces.{in_it}
 use Rattle.quoted.proofs.CodedLaws.{rare_at, pair_at_lem, return_at}
 use borrow.Author.Rules.{rules}

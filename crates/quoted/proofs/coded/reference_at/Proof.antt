@@ -1,9 +1,7 @@
 -- `quoted::coded::reference_at` meets its contract: a reference that a value may hold.
 -- Assumes nothing.
-use mathlib.Core.Path.{◌≡◌, refl, sym, ap, ◌∙◌}
-use Prim.Native.Nat.{◌+◌, ◌*◌, ◌-◌, ◌≤◌, ◌<◌}
+use mathlib.Core.Path.{refl}
 use native.Mathlib.Omega.{arith}
-use lib.ListN.{length, get_or}
 use Rattle.quoted.proofs.CodedLaws.{ref_at}
 use borrow.Author.Rules.{rules}
 use Rattle.quoted.proofs.coded.reference_at.Statement.{statement}

@@ -1,7 +1,5 @@
 -- `quoted::coded::shown_as` meets its contract, by the test that it makes.
 -- Assumes nothing.
-use mathlib.Core.Path.{◌≡◌}
-use native.Mathlib.Omega.{arith}
 use borrow.Author.Tests.{lt-ltb, le-ltb}
 use Rattle.quoted.proofs.coded.shown_as.Statement.{statement}
 use Rattle.quoted.proofs.coded.shown_as.Tie as tie

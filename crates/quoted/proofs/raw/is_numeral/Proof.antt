@@ -1,7 +1,6 @@
 -- `quoted::raw::is_numeral` meets its contract: one range of bytes after the other.
 -- Assumes nothing.
 use mathlib.Core.Path.{sym}
-use native.Mathlib.Omega.{arith}
 use Rattle.quoted.proofs.RawLaws.{low, digit, high, gap, capital, gap_2, small}
 use Rattle.quoted.proofs.raw.is_numeral.Statement.{statement}
 use Rattle.quoted.proofs.raw.is_numeral.Tie as tie

@@ -1,9 +1,8 @@
 -- `quoted::raw::reference_end` meets its contract: each kind of reference by its bytes.
 -- Assumes nothing.
-use mathlib.Core.Path.{◌≡◌, refl, sym, ◌∙◌}
-use Prim.Native.Nat.{◌+◌, ◌≤◌, ◌<◌}
+use mathlib.Core.Path.{refl, sym, ◌∙◌}
+use Prim.Native.Nat.{◌+◌}
 use native.Mathlib.Omega.{arith}
-use lib.ListN.{length, get_or}
 use borrow.Author.Rules.{rules}
 use Rattle.paper.specs.Grammar.{amp, lt, gt, quot, apos}
 use Rattle.quoted.proofs.Pieces.{in_it}

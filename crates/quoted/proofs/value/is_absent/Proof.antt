@@ -1,6 +1,6 @@
 -- `quoted::value::is_absent` meets its contract: an empty value counts as absent, any other if it is a dose of 0.
 -- Assumes nothing.
-use mathlib.Core.Path.{◌≡◌, sym, ap, ◌∙◌}
+use mathlib.Core.Path.{sym, ap, ◌∙◌}
 use mathlib.Core.List.{List}
 use Prim.Native.Nat.{ℕ}
 use lib.Seq.{slice}

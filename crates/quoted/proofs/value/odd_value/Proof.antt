@@ -1,10 +1,7 @@
 -- `quoted::value::odd_value` meets its contract: the value lies decoded behind what is in use, and is judged there.
 -- Assumes nothing.
-use mathlib.Core.Path.{◌≡◌, refl, sym, ap, ◌∙◌}
-use Prim.Native.Nat.{◌+◌, ◌-◌, ◌≤◌, ◌<◌}
+use mathlib.Core.Path.{refl, sym, ap, ◌∙◌}
 use native.Mathlib.Omega.{arith}
-use lib.ListN.{length}
-use lib.Seq.{slice}
 use Rattle.paper.specs.Rules.{settle}
 use Rattle.fields.specs.Places.{field_at}
 use Rattle.quoted.proofs.ValueLaws.{settled_none, settled_some, none_there, in_side, not_empty}

@@ -1,16 +1,11 @@
 -- `quoted::value::take_value` meets its contract: a plain value is judged where it stands, any other once it is decoded.
 -- Assumes nothing.
-use mathlib.Core.Path.{◌≡◌, refl, sym, ap, ◌∙◌}
-use Prim.Native.Nat.{◌+◌, ◌-◌, ◌≤◌, ◌<◌}
+use mathlib.Core.Path.{refl, sym, ap, ◌∙◌}
 use native.Mathlib.Omega.{arith}
-use lib.ListN.{length}
 use lib.Seq.{slice}
 use borrow.Author.Rules.{rules}
-use Rattle.paper.specs.Values.{value}
-use Rattle.paper.specs.Rules.{settle, keeps}
+use Rattle.paper.specs.Rules.{settle}
 use Rattle.fields.specs.Places.{field_at}
-use Rattle.quoted.specs.Plain.{Plainly}
-use Rattle.quoted.specs.Raws.{RawAt}
 use Rattle.quoted.proofs.ValueLaws.{ordinary_decoded, ordinary_whole, plain_raw, settled_none, settled_some, none_there, in_page}
 use Rattle.quoted.proofs.value.take_value.Statement.{statement}
 use Rattle.quoted.proofs.value.take_value.Tie as tie

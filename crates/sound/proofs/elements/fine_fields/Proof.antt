@@ -3,7 +3,6 @@
 use mathlib.Core.Path.{◌≡◌, sym, ◌∙◌}
 use Prim.Native.Nat.{◌+◌, ◌-◌, ◌≤◌}
 use native.Mathlib.Omega.{arith}
-use borrow.Author.Tests.{not-true, not-false}
 use Rattle.sound.specs.Judged.{fine_from}
 use Rattle.sound.proofs.ElementLaws.{fields_start, fields_bad, fields_on, fields_done}
 use borrow.Author.Rules.{rules}

@@ -2,7 +2,6 @@
 -- Assumes nothing.
 use mathlib.Core.Path.{◌≡◌, sym, ◌∙◌}
 use mathlib.Core.Bool.{Bool, not, ◌&&◌}
-use borrow.Author.Tests.{not-true, not-false}
 use lib.ListN.{get_or}
 use Rattle.paper.specs.Writing.{decimal, good_slot}
 use Rattle.fields.specs.Places.{kind_at, field_at}

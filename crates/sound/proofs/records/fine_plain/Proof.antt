@@ -1,7 +1,7 @@
 -- `sound::records::fine_plain` meets its contract: no package number, the element, and nothing behind it.
 -- Assumes nothing.
 use mathlib.Core.Path.{sym, ◌∙◌}
-use borrow.Author.Tests.{eq-eqb, ne_eqb, not-true, not-false}
+use borrow.Author.Tests.{eq-eqb, ne_eqb}
 use Rattle.sound.specs.Judged.{fine_plain}
 use borrow.Author.Rules.{rules}
 use Rattle.sound.proofs.records.fine_plain.Statement.{statement}

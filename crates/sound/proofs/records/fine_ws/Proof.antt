@@ -3,7 +3,6 @@
 use mathlib.Core.Path.{◌≡◌, sym, ◌∙◌}
 use Prim.Native.Nat.{◌+◌, ◌*◌, ◌-◌, ◌≤◌}
 use native.Mathlib.Omega.{arith}
-use borrow.Author.Tests.{not-true, not-false}
 use Rattle.sound.specs.Judged.{fine_ws}
 use Rattle.sound.proofs.RecordLaws.{ws_start, ws_bad, ws_on, ws_done, w_count}
 use borrow.Author.Rules.{rules}

@@ -1,7 +1,6 @@
 -- `sound::records::last_w` meets its contract: the W are looked at from the last one on.
 -- Assumes nothing.
 use mathlib.Core.Path.{sym, ◌∙◌}
-use borrow.Author.Tests.{not-true, not-false}
 use Rattle.sound.specs.Judged.{last_w}
 use borrow.Author.Rules.{rules}
 use Rattle.sound.proofs.records.last_w.Statement.{statement}

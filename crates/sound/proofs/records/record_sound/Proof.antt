@@ -2,7 +2,6 @@
 -- Assumes nothing.
 use mathlib.Core.Path.{◌≡◌, sym, ap, ◌∙◌}
 use lib.ListN.{get_or}
-use Rattle.paper.specs.Fields as Paper
 use Rattle.fields.specs.Places.{kind_at}
 use Rattle.plan.specs.Numbers.{kind_shown}
 use Rattle.plan.specs.Records.{paper_kind}

@@ -1,6 +1,5 @@
 -- `sound::values::fine_value` meets its contract: a span is absent, or points outside the text, or shows a value.
 -- Assumes nothing.
-use mathlib.Core.Path.{◌∙◌}
 use Prim.Native.Nat.{◌+◌}
 use native.Mathlib.Omega.{arith}
 use Rattle.fields.specs.Places.{field_at}

@@ -1,8 +1,7 @@
 -- `sound::values::good_package` meets its contract: what is spelled are the digits of the number.
 -- Assumes nothing.
-use mathlib.Core.Path.{◌≡◌, ap, ◌∙◌}
+use mathlib.Core.Path.{ap, ◌∙◌}
 use native.Mathlib.Omega.{arith}
-use lib.ListN.{take}
 use Rattle.paper.specs.Writing.{decimal}
 use Rattle.fields.specs.Places.{field_at}
 use Rattle.sound.specs.Judged.{good_value}

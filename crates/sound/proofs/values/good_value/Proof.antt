@@ -1,7 +1,7 @@
 -- `sound::values::good_value` meets its contract: its field decides; a value that is there must be as reading gives it.
 -- Assumes nothing.
 use mathlib.Core.Path.{◌≡◌, sym, ap, ◌∙◌}
-use mathlib.Core.Bool.{Bool, true, false, not, ◌&&◌}
+use mathlib.Core.Bool.{Bool, true, not, ◌&&◌}
 use mathlib.Core.List.{List}
 use Prim.Native.Nat.{ℕ}
 use native.Mathlib.Omega.{arith}
@@ -16,7 +16,6 @@ use Rattle.paper.specs.Rules.{is_zero}
 use Rattle.fields.specs.Places.{rule_at, field_at, field_flaw}
 use Rattle.fields.proofs.RuleLaws.{rule_back}
 use Rattle.room.proofs.Parts.{part_is, part_empty, part_some}
-use Rattle.sound.specs.Judged.{good_value}
 use Rattle.sound.proofs.ValueLaws.{value_absent, value_present, flawed}
 use borrow.Author.Rules.{rules}
 use Rattle.sound.proofs.values.good_value.Statement.{statement}

@@ -14,13 +14,8 @@ use Rattle.room.specs.Written.{Wrote}
 use Rattle.room.proofs.Pieces.{Fits, Going, wrote, going_start, going_fits, going_on, going_done, room_kept}
 use Rattle.writer.specs.Tags.{quoted}
 use Rattle.writer.proofs.Spelled.{byte_fits, byte_on}
-use borrow.Author.Rules.{rules}
 use Rattle.writer.proofs.tags.lay_attribute.Statement.{statement}
 use Rattle.writer.proofs.tags.lay_attribute.Tie as tie
-use Rattle.writer.proofs.tags.lay_attribute.Reads as reads
-use Rattle.writer.proofs.tags.lay_attribute.Lts as lts
-use Rattle.fields.proofs.names.lay_name.Reads as lay-name-reads
-use Rattle.writer.proofs.tags.lay_value.Reads as lay-value-reads
 
 -- the value as it is spelled, and the attribute
 abbrev raw : tie.Start → List ℕ

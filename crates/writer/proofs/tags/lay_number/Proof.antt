@@ -11,7 +11,6 @@ use Rattle.room.specs.Written.{Wrote}
 use Rattle.room.proofs.Pieces.{Fits, Going, wrote, none_written, going_start, going_fits, going_on, going_done, fits_as, room_kept}
 use Rattle.writer.specs.Tags.{quoted, attribute}
 use Rattle.writer.proofs.Spelled.{decimal_quoted, byte_fits, byte_on}
-use borrow.Author.Rules.{rules}
 use Rattle.writer.proofs.tags.lay_number.Statement.{statement}
 use Rattle.writer.proofs.tags.lay_number.Tie as tie
 

@@ -17,9 +17,6 @@ use Rattle.room.specs.Laid.{laid}
 use Rattle.room.proofs.LaidLaws.{Laying, told, next_byte, all_laid}
 use Rattle.writer.proofs.tags.lay_plain.Statement.{statement}
 use Rattle.writer.proofs.tags.lay_plain.Tie as tie
-use Rattle.writer.proofs.tags.lay_plain.Reads as reads
-use Rattle.writer.proofs.tags.lay_plain.Lts as lts
-use Rattle.writer.proofs.tags.grows.Reads as grows-reads
 
 -- the bytes of w from i up to `to` are spelled as they are
 abbrev Own : List ℕ → ℕ → ℕ → Type 0

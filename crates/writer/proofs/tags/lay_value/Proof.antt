@@ -14,10 +14,6 @@ use Rattle.room.specs.Written.{Wrote}
 use Rattle.writer.proofs.Spelled.{escape_long, laid_over}
 use Rattle.writer.proofs.tags.lay_value.Statement.{statement}
 use Rattle.writer.proofs.tags.lay_value.Tie as tie
-use Rattle.writer.proofs.tags.lay_value.Reads as reads
-use Rattle.writer.proofs.tags.lay_value.Lts as lts
-use Rattle.markup.proofs.values.spell.Reads as spell-reads
-use Rattle.writer.proofs.tags.lay_plain.Reads as lay-plain-reads
 
 -- the value
 abbrev value : tie.Start → List ℕ

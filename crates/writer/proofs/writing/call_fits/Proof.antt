@@ -1,7 +1,7 @@
 -- `writer::writing::call_fits` meets its contract: each test is one part of it.
 -- Assumes nothing.
 use mathlib.Core.Path.{sym, ◌∙◌}
-use borrow.Author.Tests.{le-leb, lt-leb, not-true, not-false}
+use borrow.Author.Tests.{le-leb, lt-leb}
 use borrow.Author.Rules.{rules}
 use Rattle.writer.specs.Promise.{call_fits}
 use Rattle.writer.proofs.writing.call_fits.Statement.{statement}

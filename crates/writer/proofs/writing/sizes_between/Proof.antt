@@ -12,9 +12,6 @@ use borrow.Author.Rules.{rules}
 use Rattle.writer.specs.Cutting.{size_in, sizes_in}
 use Rattle.writer.proofs.writing.sizes_between.Statement.{statement}
 use Rattle.writer.proofs.writing.sizes_between.Tie as tie
-use Rattle.writer.proofs.writing.sizes_between.Reads as reads
-use Rattle.writer.proofs.writing.sizes_between.Lts as lts
-use Rattle.writer.proofs.cut.size_in.Reads as size-in-reads
 
 -- the rows up to i are added
 record Held (ms : List ℕ) (from to size i : ℕ) : Type 0 where

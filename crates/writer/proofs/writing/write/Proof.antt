@@ -7,10 +7,9 @@ use Prim.Native.Nat.{ℕ, ◌≤◌}
 use native.Mathlib.Omega.{arith}
 use lib.ListN.{length, take, replicate}
 use borrow.Author.Rules.{rules}
-use borrow.Author.Tests.{not-true, not-false}
 use Rattle.paper.specs.Reading.{numbers}
 use Rattle.paper.specs.Plan.{Head, Row}
-use Rattle.paper.specs.Writing.{Written, bad_call, unsound, too_long, page, pages}
+use Rattle.paper.specs.Writing.{Written, bad_call, unsound, too_long, page}
 use Rattle.plan.specs.Numbers.{rows_lent, show_head, show_rows}
 use Rattle.plan.specs.declared.Plan.{Plan}
 use Rattle.sound.specs.Sound.{head_sound, first_bad_in}
