@@ -1,13 +1,15 @@
 // Reads a page, at most 1,400 bytes of standard input, and prints `whole`, or `good` and the length of its longest good beginning. Then, whole or not,
 // one line for each tag that the walk finds: `start`, the place of its `<` and its name; for each of its attributes `attr`, its name and its value in
 // hexadecimal; `end` for an end tag or a tag that closes itself.
+#![tactic(auto)]
+
 ghost use Rattle.std.specs.Prelude.{◌<◌, ◌≤◌, length};
 ghost use Rattle.paper.specs.Sizes.{page_bytes};
 
-use libc::{STDIN_FILENO, STDOUT_FILENO};
 use markup::scan::{Extent, scan};
 use markup::values::decode;
 use markup::walk::{Mark, Piece, next_attr, next_tag};
+use std::io::{self, BufWriter, Read, Write};
 
 // The hexadecimal digit of a number below 16.
 fn digit(n: u8) -> u8
@@ -20,48 +22,52 @@ fn digit(n: u8) -> u8
 }
 
 // Prints a byte in hexadecimal.
-fn show_byte(b: u8) {
-    let d = [digit(b / 16), digit(b % 16)];
-    io::write_all(STDOUT_FILENO, &d);
+fn show_byte<W: Write>(out: &mut W, b: u8) -> io::Result<()> {
+    out.write_all(&[digit(b / 16), digit(b % 16)])
 }
 
 // Prints the first n bytes in hexadecimal.
-fn show_hex(s: &[u8], n: usize)
+fn show_hex<W: Write>(out: &mut W, s: &[u8], n: usize) -> io::Result<()>
     requires { n ≤ length s.now }
 {
-    let mut i = 0;
-    while i < n {
-        show_byte(s[i]);
-        i += 1;
+    for b in &s[..n] {
+        show_byte(out, *b)?;
     }
+    Ok(())
 }
 
 // Prints an attribute.
-fn show_attr(page: &[u8], name_at: usize, name_end: usize, raw_at: usize, raw_end: usize)
+fn show_attr<W: Write>(
+    out: &mut W,
+    page: &[u8],
+    name_at: usize,
+    name_end: usize,
+    raw_at: usize,
+    raw_end: usize,
+) -> io::Result<()>
     requires { (length page.now ≤ page_bytes) × (name_at ≤ name_end) × (name_end ≤ length page.now) × (raw_at ≤ raw_end) × (raw_end ≤ length page.now) }
 {
-    let mut out = [0u8; paper::PAGE];
-    let n = decode(page, raw_at, raw_end, &mut out, 0);
-    io::write_all(STDOUT_FILENO, b"attr ");
-    io::write_all(STDOUT_FILENO, &page[name_at..name_end]);
-    io::write_all(STDOUT_FILENO, b" ");
-    show_hex(&out, n);
-    io::write_all(STDOUT_FILENO, b"\n");
+    let mut value = [0u8; paper::PAGE];
+    let n = decode(page, raw_at, raw_end, &mut value, 0);
+    out.write_all(b"attr ")?;
+    out.write_all(&page[name_at..name_end])?;
+    out.write_all(b" ")?;
+    show_hex(out, &value, n)?;
+    out.write_all(b"\n")
 }
 
 // Prints the attributes of a tag from `at` on, and `end` if the tag closes itself.
-fn show_attrs(page: &[u8], at: usize)
+fn show_attrs<W: Write>(out: &mut W, page: &[u8], at: usize) -> io::Result<()>
     requires { (length page.now ≤ page_bytes) × (at ≤ length page.now) }
 {
     let mut i = at;
     loop {
-        let p = next_attr(page, i);
-        match p {
+        match next_attr(page, i) {
             Piece::Stop { shut } => {
                 if shut {
-                    io::write_all(STDOUT_FILENO, b"end\n");
+                    show_end(out)?;
                 }
-                return;
+                return Ok(());
             }
             Piece::Attribute {
                 name_at,
@@ -69,7 +75,7 @@ fn show_attrs(page: &[u8], at: usize)
                 raw_at,
                 raw_end,
             } => {
-                show_attr(page, name_at, name_end, raw_at, raw_end);
+                show_attr(out, page, name_at, name_end, raw_at, raw_end)?;
                 i = raw_end + 1;
             }
         }
@@ -77,39 +83,36 @@ fn show_attrs(page: &[u8], at: usize)
 }
 
 // Prints a start tag.
-fn show_start(page: &[u8], at: usize, name_end: usize)
+fn show_start<W: Write>(out: &mut W, page: &[u8], at: usize, name_end: usize) -> io::Result<()>
     requires { (length page.now ≤ page_bytes) × (at < name_end) × (name_end ≤ length page.now) }
 {
-    io::write_all(STDOUT_FILENO, b"start ");
-    io::print_decimal(STDOUT_FILENO, at as u64);
-    io::write_all(STDOUT_FILENO, b" ");
-    io::write_all(STDOUT_FILENO, &page[at + 1..name_end]);
-    io::write_all(STDOUT_FILENO, b"\n");
-    show_attrs(page, name_end);
+    write!(out, "start {at} ")?;
+    out.write_all(&page[at + 1..name_end])?;
+    out.write_all(b"\n")?;
+    show_attrs(out, page, name_end)
 }
 
 // Prints the line for an end tag.
-fn show_end() {
-    io::write_all(STDOUT_FILENO, b"end\n");
+fn show_end<W: Write>(out: &mut W) -> io::Result<()> {
+    out.write_all(b"end\n")
 }
 
 // Prints the tags of a page.
-fn show_tags(page: &[u8])
+fn show_tags<W: Write>(out: &mut W, page: &[u8]) -> io::Result<()>
     requires { length page.now ≤ page_bytes }
 {
     let mut i = 0;
     loop {
-        let m = next_tag(page, i);
-        match m {
+        match next_tag(page, i) {
             Mark::Nothing => {
-                return;
+                return Ok(());
             }
             Mark::End { at } => {
-                show_end();
+                show_end(out)?;
                 i = at + 1;
             }
             Mark::Start { at, name_end } => {
-                show_start(page, at, name_end);
+                show_start(out, page, at, name_end)?;
                 i = at + 1;
             }
         }
@@ -117,25 +120,22 @@ fn show_tags(page: &[u8])
 }
 
 // Prints how far a page is good.
-fn show_extent(page: &[u8])
+fn show_extent<W: Write>(out: &mut W, page: &[u8]) -> io::Result<()>
     requires { length page.now ≤ page_bytes }
 {
-    let x = scan(page);
-    match x {
-        Extent::Whole => {
-            io::write_all(STDOUT_FILENO, b"whole\n");
-        }
-        Extent::Good(n) => {
-            io::write_all(STDOUT_FILENO, b"good ");
-            io::print_decimal(STDOUT_FILENO, n as u64);
-            io::write_all(STDOUT_FILENO, b"\n");
-        }
+    match scan(page) {
+        Extent::Whole => out.write_all(b"whole\n"),
+        Extent::Good(n) => writeln!(out, "good {n}"),
     }
 }
 
-fn main() {
-    let mut buf = [0u8; paper::PAGE];
-    let n = io::read_full(STDIN_FILENO, &mut buf);
-    show_extent(&buf[..n]);
-    show_tags(&buf[..n]);
+fn main(rt: HostRuntime) -> io::Result<()> {
+    let mut page = Vec::new(rt.alloc());
+    rt.reader().take(paper::PAGE as u64).read_to_end(&mut page)?;
+    // Nothing is cut off: no contract says that the reading ended there.
+    page.truncate(paper::PAGE);
+    let mut out = BufWriter::new(rt.alloc(), io::writer(&rt))?;
+    show_extent(&mut out, &page)?;
+    show_tags(&mut out, &page)?;
+    out.flush()
 }
