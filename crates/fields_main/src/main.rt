@@ -1,11 +1,16 @@
-// Reads lines `element letters value` from standard input and tells of each whether the value keeps its field: 1 or 0;
+// Reads lines `element letters value` from standard input, at most 65,536 bytes, and tells of each whether the value keeps its field: 1 or 0;
 // `-` for a dose that reads as absent, `?` where there is no such element or field.
+#![tactic(auto)]
+
 ghost use Rattle.std.specs.Prelude.{◌<◌};
 
 use fields::dose::is_zero;
 use fields::lookup::{child, count_of, field, first_of, rule_of};
 use fields::rules::keeps_field;
-use libc::{STDIN_FILENO, STDOUT_FILENO};
+use std::io::{self, BufWriter, Read, Write};
+
+// The most bytes of an input that count.
+const INPUT: u64 = 65536;
 
 // The element of a name under any parent, 0 if there is none.
 fn element_of(name: &[u8]) -> u8
@@ -27,47 +32,44 @@ fn element_of(name: &[u8]) -> u8
 }
 
 // One answer.
-fn answer(name: &[u8], letters: &[u8], value: &[u8]) {
+fn answer<W: Write>(out: &mut W, name: &[u8], letters: &[u8], value: &[u8]) -> io::Result<()> {
     let element = element_of(name);
     let place = field(element, letters);
     if place < count_of(element) {
         let id = first_of(element) + place;
         if is_zero(rule_of(id), value) {
-            io::write_all(STDOUT_FILENO, b"-\n");
+            out.write_all(b"-\n")
         } else if keeps_field(id, value) {
-            io::write_all(STDOUT_FILENO, b"1\n");
+            out.write_all(b"1\n")
         } else {
-            io::write_all(STDOUT_FILENO, b"0\n");
+            out.write_all(b"0\n")
         }
     } else {
-        io::write_all(STDOUT_FILENO, b"?\n");
+        out.write_all(b"?\n")
     }
 }
 
 // One line: what stands before the first blank, up to the second, and behind it.
-fn line(s: &[u8]) {
-    let a = bytes::scan::find(s, 0, s.len(), 32);
-    if a < s.len() {
-        let b = bytes::scan::find(s, a + 1, s.len(), 32);
-        if b < s.len() {
-            answer(&s[0..a], &s[a + 1..b], &s[b + 1..s.len()]);
-        }
+fn line<W: Write>(out: &mut W, s: &[u8]) -> io::Result<()> {
+    let mut parts = s.splitn(3, |b| *b == b' ');
+    match (parts.next(), parts.next(), parts.next()) {
+        (Some(name), Some(letters), Some(value)) => answer(out, name, letters, value),
+        _ => Ok(()),
     }
 }
 
 // All lines.
-fn lines(s: &[u8]) {
-    let mut i = 0;
-    while i < s.len() {
-        let e = bytes::scan::find(s, i, s.len(), 10);
-        let p = &s[i..e];
-        line(p);
-        i = e + 1;
+fn lines<W: Write>(out: &mut W, s: &[u8]) -> io::Result<()> {
+    for p in s.split(|b| *b == b'\n') {
+        line(out, p)?;
     }
+    Ok(())
 }
 
-fn main() {
-    let mut buf = io::large_buffer();
-    let n = io::read_full(STDIN_FILENO, &mut buf);
-    lines(&buf[..n]);
+fn main(rt: HostRuntime) -> io::Result<()> {
+    let mut input = Vec::new(rt.alloc());
+    rt.reader().take(INPUT).read_to_end(&mut input)?;
+    let mut out = BufWriter::new(rt.alloc(), io::writer(&rt))?;
+    lines(&mut out, &input)?;
+    out.flush()
 }
