@@ -1,15 +1,16 @@
 // Planfind: reads a package number from standard input, one to eight digits, a zero byte, and then the pages of a medication plan, separated by one zero byte, at
-// most 12,609 bytes, and prints how many rows of their plan hold the number, and which, or the three lines of a refusal. Its own code ends normally on every
-// input. It has no exit status of its own, as no program in Rattle has: a read that fails is the end of its input, output that cannot be written is lost, and
-// into a pipe that nobody reads the system ends it by a signal. tools/program runs it, and gives a status above 0 where its output is not written.
-use libc::{STDIN_FILENO, STDOUT_FILENO};
+// most 12,609 bytes, and prints how many rows of their plan hold the number, and which, or the three lines of a refusal. It ends normally on every input, with
+// status 0; a read or a write that fails, and memory that runs out, end it with status 1 and a line on the error output.
+#![tactic(auto)]
+
+use std::io::{self, Read};
 use tollgilt::input::{ASKING, FOUND, find_input, printed_len};
 
-fn main() {
-    let mut input = [0u8; ASKING];
-    let n = io::read_full(STDIN_FILENO, &mut input);
+fn main(rt: HostRuntime) -> io::Result<()> {
+    let mut input = Vec::new(rt.alloc());
+    rt.reader().take(ASKING as u64).read_to_end(&mut input)?;
     let mut out = [0u8; FOUND];
-    let printed = find_input(&input[..n], &mut out);
+    let printed = find_input(&input, &mut out);
     let k = printed_len(printed);
-    io::write_all(STDOUT_FILENO, &out[..k]);
+    rt.write_all(&out[..k])
 }
