@@ -10,6 +10,7 @@ use crate::lines::{bad, bytes, end, number, size, word};
 use crate::number_of;
 use cell::answer::{Answer, Shown, Source, refusal_number, source_number};
 use cell::{cell_answer, cell_text};
+use std::io::{self, Write};
 
 // Where the rows begin.
 const ROWS_AT: usize = 28;
@@ -25,22 +26,19 @@ fn number_at(given: &[u8], at: usize) -> u32
 fn lay_rows(given: &[u8], rows: &mut [u32], n: usize)
     requires { (28 + 4 * n ≤ length given.now) × (n ≤ length rows.old) }
 {
-    let mut i = 0;
-    while i < n {
+    for i in 0..n {
         rows[i] = number_at(given, ROWS_AT + 4 * i);
-        i += 1;
     }
 }
 
 // What a cell shows, in numbers.
-fn tell_shown(s: Shown) {
-    let source = s.source;
-    number(source_number(source));
-    size(s.at);
-    size(s.len);
-    number(s.more as u32);
-    number(s.zero as u32);
-    size(s.omitted);
+fn tell_shown<W: Write>(out: &mut W, s: Shown) -> io::Result<()> {
+    number(out, source_number(s.source))?;
+    size(out, s.at)?;
+    size(out, s.len)?;
+    number(out, s.more as u32)?;
+    number(out, s.zero as u32)?;
+    size(out, s.omitted)
 }
 
 // What a cell shows that is answered; nothing where it is refused.
@@ -59,7 +57,8 @@ fn shown_of(a: Answer) -> Shown {
 }
 
 // What is answered of a cell.
-fn tell<'a>(
+fn tell<'a, W: Write>(
+    out: &mut W,
     rows: &'a [u32],
     count: usize,
     text: &'a [u8],
@@ -67,63 +66,70 @@ fn tell<'a>(
     row: usize,
     field: u32,
     which: usize,
-) {
+) -> io::Result<()> {
     let a = cell_answer(rows, count, text, catalogue, row, field, which);
-    word(b"cell");
-    number(refusal_number(a));
-    tell_shown(shown_of(a));
-    end();
+    word(out, b"cell")?;
+    number(out, refusal_number(a))?;
+    tell_shown(out, shown_of(a))?;
+    end(out)?;
     let shown = cell_text(rows, count, text, catalogue, row, field, which);
-    word(b"text");
-    bytes(shown, shown.len());
-    end();
+    word(out, b"text")?;
+    bytes(out, shown, shown.len())?;
+    end(out)
 }
 
 // The cell that the first four numbers name, in the first of the rows' numbers.
-fn tell_named<'a>(given: &'a [u8], rows: &'a [u32], n: usize, text: &'a [u8], catalogue: &'a [u8])
+fn tell_named<'a, W: Write>(
+    out: &mut W,
+    given: &'a [u8],
+    rows: &'a [u32],
+    n: usize,
+    text: &'a [u8],
+    catalogue: &'a [u8],
+) -> io::Result<()>
     requires { (28 ≤ length given.now) × (n ≤ length rows.now) }
 {
     let count = number_at(given, 0) as usize;
     let row = number_at(given, 4) as usize;
     let field = number_at(given, 8);
     let which = number_at(given, 12) as usize;
-    tell(&rows[0..n], count, text, catalogue, row, field, which);
+    tell(out, &rows[0..n], count, text, catalogue, row, field, which)
 }
 
 // The same, of a room for rows.
-fn tell_in<'a>(
+fn tell_in<'a, W: Write>(
+    out: &mut W,
     given: &'a [u8],
     rows: &'a [u32; 16384],
     n: usize,
     text: &'a [u8],
     catalogue: &'a [u8],
-)
+) -> io::Result<()>
     requires { (28 ≤ length given.now) × (n ≤ 16384) }
 {
-    tell_named(given, rows, n, text, catalogue);
+    tell_named(out, given, rows, n, text, catalogue)
 }
 
 // The command.
-pub fn answer(given: &[u8]) {
+pub fn answer<W: Write>(out: &mut W, given: &[u8]) -> io::Result<()> {
     if given.len() < ROWS_AT {
-        bad();
-        return;
+        return bad(out);
     }
     let n = number_at(given, 16) as usize;
     let text_at = ROWS_AT + 4 * n;
     let catalogue_at = text_at + number_at(given, 20) as usize;
     let all = catalogue_at + number_at(given, 24) as usize;
     if given.len() < all || n > 16384 {
-        bad();
-        return;
+        return bad(out);
     }
     let mut rows = [0u32; 16384];
     lay_rows(given, &mut rows, n);
     tell_in(
+        out,
         given,
         &rows,
         n,
         &given[text_at..catalogue_at],
         &given[catalogue_at..all],
-    );
+    )
 }

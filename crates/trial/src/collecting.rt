@@ -11,79 +11,79 @@ use collector::lacks::{lowest_missing, missing_count, missing_numbers};
 use collector::reading::read;
 use collector::store::{Collector, clear};
 use plan::Plan;
+use std::io::{self, Write};
 
 // The answer to a page that is not refused.
-fn tell_number(n: u32) {
-    word(b"answer");
-    number(n);
-    number(0);
-    number(0);
-    end();
+fn tell_number<W: Write>(out: &mut W, n: u32) -> io::Result<()> {
+    word(out, b"answer")?;
+    number(out, n)?;
+    number(out, 0)?;
+    number(out, 0)?;
+    end(out)
 }
 
 // The answer to a page.
-fn tell_adding(a: Answer) {
+fn tell_adding<W: Write>(out: &mut W, a: Answer) -> io::Result<()> {
     match a {
-        Answer::Added => {
-            tell_number(0);
-        }
-        Answer::AlreadyHere => {
-            tell_number(20);
-        }
-        Answer::Refused(refusal) => {
-            tell_answer(refusal);
-        }
+        Answer::Added => tell_number(out, 0),
+        Answer::AlreadyHere => tell_number(out, 20),
+        Answer::Refused(refusal) => tell_answer(out, refusal),
     }
 }
 
 // What is missing. Gives back the collector.
-fn told(c: Collector) -> Collector {
-    word(b"missing");
-    number(missing_numbers(c) as u32);
-    number(missing_count(c));
-    number(lowest_missing(c));
-    end();
-    c
+fn told<W: Write>(out: &mut W, c: Collector) -> io::Result<Collector> {
+    word(out, b"missing")?;
+    number(out, missing_numbers(c) as u32)?;
+    number(out, missing_count(c))?;
+    number(out, lowest_missing(c))?;
+    end(out)?;
+    Ok(c)
 }
 
 // Adds the page that stands behind the letter.
-fn add_given(c: Collector, given: &[u8], len: usize) -> Collector {
+fn add_given<W: Write>(
+    out: &mut W,
+    c: Collector,
+    given: &[u8],
+    len: usize,
+) -> io::Result<Collector> {
     let r = add(c, given, 1, len);
-    let a = r.answer;
-    tell_adding(a);
-    r.collector
+    tell_adding(out, r.answer)?;
+    Ok(r.collector)
 }
 
 // Reads what is collected.
-fn read_all(c: Collector) {
+fn read_all<W: Write>(out: &mut W, c: Collector) -> io::Result<()> {
     let mut rows = [0u32; Plan::NUMBERS];
     let mut text = [0u8; Plan::TEXT];
     let r = read(c, &mut rows, &mut text);
-    let a = r.answer;
-    tell_answer(a);
-    let plan = r.plan;
-    word(b"rows");
-    number(plan.rows);
-    end();
+    tell_answer(out, r.answer)?;
+    word(out, b"rows")?;
+    number(out, r.plan.rows)?;
+    end(out)
 }
 
 // The command. Gives back the collector.
-pub fn answer(c: Collector, given: &[u8]) -> Collector {
+pub fn answer<W: Write>(out: &mut W, c: Collector, given: &[u8]) -> io::Result<Collector> {
     if given.len() < 1 {
-        bad();
-        return c;
+        bad(out)?;
+        return Ok(c);
     }
     match given[0] {
-        b'a' => told(add_given(c, given, given.len() - 1)),
-        b'e' => told(clear(c)),
-        b'm' => told(c),
+        b'a' => {
+            let added = add_given(out, c, given, given.len() - 1)?;
+            told(out, added)
+        }
+        b'e' => told(out, clear(c)),
+        b'm' => told(out, c),
         b'r' => {
-            read_all(c);
-            told(c)
+            read_all(out, c)?;
+            told(out, c)
         }
         _ => {
-            bad();
-            c
+            bad(out)?;
+            Ok(c)
         }
     }
 }

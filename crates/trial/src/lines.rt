@@ -1,57 +1,54 @@
-// Lines: words and decimal numbers on standard output, a blank before each number.
+// Lines: words and decimal numbers on the output, a blank before each number.
 ghost use Rattle.std.specs.Prelude.{◌≤◌, length};
 
-use libc::STDOUT_FILENO;
+use std::io::{self, Write};
 
 // A word at the beginning of a line.
-pub fn word(s: &[u8]) {
-    io::write_all(STDOUT_FILENO, s);
+pub fn word<W: Write>(out: &mut W, s: &[u8]) -> io::Result<()> {
+    out.write_all(s)
 }
 
 // A number of the machine's width.
-pub fn size(n: usize) {
-    io::write_all(STDOUT_FILENO, b" ");
-    io::print_decimal(STDOUT_FILENO, n as u64);
+pub fn size<W: Write>(out: &mut W, n: usize) -> io::Result<()> {
+    write!(out, " {n}")
 }
 
 // A number.
-pub fn number(n: u32) {
-    size(n as usize);
+pub fn number<W: Write>(out: &mut W, n: u32) -> io::Result<()> {
+    size(out, n as usize)
 }
 
 // A byte as a number.
-fn byte(b: u8) {
-    number(b as u32);
+fn byte<W: Write>(out: &mut W, b: u8) -> io::Result<()> {
+    number(out, b as u32)
 }
 
 // The end of a line.
-pub fn end() {
-    io::write_all(STDOUT_FILENO, b"\n");
+pub fn end<W: Write>(out: &mut W) -> io::Result<()> {
+    out.write_all(b"\n")
 }
 
 // The line for a command that is too short, or names no step.
-pub fn bad() {
-    io::write_all(STDOUT_FILENO, b"bad\n");
+pub fn bad<W: Write>(out: &mut W) -> io::Result<()> {
+    out.write_all(b"bad\n")
 }
 
 // The bytes up to an end.
-pub fn bytes(s: &[u8], end: usize)
+pub fn bytes<W: Write>(out: &mut W, s: &[u8], end: usize) -> io::Result<()>
     requires { end ≤ length s.now }
 {
-    let mut i = 0;
-    while i < end {
-        byte(s[i]);
-        i += 1;
+    for b in &s[..end] {
+        byte(out, *b)?;
     }
+    Ok(())
 }
 
 // The numbers from `at` to an end.
-pub fn numbers(s: &[u32], at: usize, end: usize)
+pub fn numbers<W: Write>(out: &mut W, s: &[u32], at: usize, end: usize) -> io::Result<()>
     requires { (at ≤ end) × (end ≤ length s.now) }
 {
-    let mut i = at;
-    while i < end {
-        number(s[i]);
-        i += 1;
+    for n in &s[at..end] {
+        number(out, *n)?;
     }
+    Ok(())
 }

@@ -4,6 +4,8 @@
 //   c  takes one step with a collector that is kept from command to command, and prints the answer and what is missing (`collecting`)
 //   k  prints a cell (`cells`)
 //   r  reads pages, one zero byte between them, and prints answer, plan, rows and text (`reading`)
+#![tactic(auto)]
+
 mod cells;
 mod collecting;
 mod lines;
@@ -12,7 +14,7 @@ mod reading;
 ghost use Rattle.std.specs.Prelude.{◌≤◌, length};
 
 use collector::store::Collector;
-use libc::{STDIN_FILENO, STDOUT_FILENO};
+use std::io::{self, BufWriter, ErrorKind, Read, Write};
 
 // A turn: whether a command is answered, and the collector afterwards.
 #[derive(Clone, Copy)]
@@ -27,36 +29,48 @@ pub fn number_of(a: u8, b: u8, c: u8, d: u8) -> u32 {
 }
 
 // Answers one command. Gives back the collector.
-fn answer(c: Collector, letter: u8, given: &[u8]) -> Collector {
+fn answer<W: Write>(out: &mut W, c: Collector, letter: u8, given: &[u8]) -> io::Result<Collector> {
     match letter {
-        b'c' => collecting::answer(c, given),
+        b'c' => collecting::answer(out, c, given),
         b'k' => {
-            cells::answer(given);
-            c
+            cells::answer(out, given)?;
+            Ok(c)
         }
         b'r' => {
-            reading::answer(given);
-            c
+            reading::answer(out, given)?;
+            Ok(c)
         }
         _ => {
-            io::write_all(STDOUT_FILENO, b"unknown\n");
-            c
+            out.write_all(b"unknown\n")?;
+            Ok(c)
         }
     }
 }
 
 // Answers the command that stands in the first bytes of a slice.
-fn answer_first(c: Collector, letter: u8, s: &[u8], len: usize) -> Collector
+fn answer_first<W: Write>(
+    out: &mut W,
+    c: Collector,
+    letter: u8,
+    s: &[u8],
+    len: usize,
+) -> io::Result<Collector>
     requires { len ≤ length s.now }
 {
-    answer(c, letter, &s[0..len])
+    answer(out, c, letter, &s[0..len])
 }
 
 // The same, of a room.
-fn answer_in(c: Collector, letter: u8, room: &[u8; 65536], len: usize) -> Collector
+fn answer_in<W: Write>(
+    out: &mut W,
+    c: Collector,
+    letter: u8,
+    room: &[u8; 65536],
+    len: usize,
+) -> io::Result<Collector>
     requires { len ≤ 65536 }
 {
-    answer_first(c, letter, room, len)
+    answer_first(out, c, letter, room, len)
 }
 
 // The turn after which there is none.
@@ -67,39 +81,47 @@ fn last(c: Collector) -> Turn {
     }
 }
 
-// Reads one command and answers it; the last turn if there is none left, or if it is too long or cut short.
-fn next(c: Collector) -> Turn {
-    let mut head = [0u8; 5];
-    let got = io::read_full(STDIN_FILENO, &mut head);
-    if got < 5 {
-        return last(c);
-    }
-    let len = number_of(head[1], head[2], head[3], head[4]) as usize;
-    if len > 65536 {
-        return last(c);
-    }
-    let mut room = io::large_buffer();
-    let n = io::read_full(STDIN_FILENO, &mut room[0..len]);
-    if n < len {
-        return last(c);
-    }
-    let after = answer_in(c, head[0], &room, len);
-    Turn {
-        more: true,
-        collector: after,
+// Whether a buffer was filled; it was not where the input ended before.
+fn is_filled(read: io::Result<()>) -> io::Result<bool> {
+    match read {
+        Ok(()) => Ok(true),
+        Err(e) if e.kind() == ErrorKind::UnexpectedEof => Ok(false),
+        Err(e) => Err(e),
     }
 }
 
-// A proved loop has to end, and nothing says that the input does. So the turns are counted down, from a number that no run uses up.
-fn main() {
+// Reads one command and answers it; the last turn if there is none left, or if it is too long or cut short.
+fn next<R: Read, W: Write>(input: &mut R, out: &mut W, c: Collector) -> io::Result<Turn> {
+    let mut head = [0u8; 5];
+    if !is_filled(input.read_exact(&mut head))? {
+        return Ok(last(c));
+    }
+    let len = number_of(head[1], head[2], head[3], head[4]) as usize;
+    if len > 65536 {
+        return Ok(last(c));
+    }
+    let mut room = [0u8; 65536];
+    if !is_filled(input.read_exact(&mut room[0..len]))? {
+        return Ok(last(c));
+    }
+    let after = answer_in(out, c, head[0], &room, len)?;
+    Ok(Turn {
+        more: true,
+        collector: after,
+    })
+}
+
+// A proved loop has to end, and nothing says that the input does. So the turns are counted, up to a number that no run comes to.
+fn main(rt: HostRuntime) -> io::Result<()> {
+    let mut input = rt.reader();
+    let mut out = BufWriter::new(rt.alloc(), io::writer(&rt))?;
     let mut c = Collector::empty();
-    let mut turns = u64::MAX;
-    while turns > 0 {
-        let t = next(c);
+    for _ in 0..u64::MAX {
+        let t = next(&mut input, &mut out, c)?;
         if !t.more {
-            return;
+            break;
         }
         c = t.collector;
-        turns -= 1;
     }
+    out.flush()
 }

@@ -13,6 +13,7 @@ use listing::pages::split_pages;
 use plan::{Plan, Span, span_at};
 use reader::answer::{Answer, refusal_number, refusal_page, refusal_place};
 use reader::reading::read;
+use std::io::{self, Write};
 
 // What stands in the rows' room, and in the text's, before the call.
 const ROW_PATTERN: u32 = 2779096485;
@@ -20,12 +21,12 @@ const ROW_PATTERN: u32 = 2779096485;
 const TEXT_PATTERN: u8 = 90;
 
 // The first line.
-pub fn tell_answer(a: Answer) {
-    word(b"answer");
-    number(refusal_number(a));
-    number(refusal_page(a));
-    number(refusal_place(a));
-    end();
+pub fn tell_answer<W: Write>(out: &mut W, a: Answer) -> io::Result<()> {
+    word(out, b"answer")?;
+    number(out, refusal_number(a))?;
+    number(out, refusal_page(a))?;
+    number(out, refusal_place(a))?;
+    end(out)
 }
 
 // The smaller of two numbers.
@@ -48,28 +49,25 @@ fn later(last: usize, s: Span) -> usize {
 }
 
 // The head's spans on a line. Answers where the last of them ends in the text.
-fn tell_head(head: [Span; 27]) -> usize {
+fn tell_head<W: Write>(out: &mut W, head: [Span; 27]) -> io::Result<usize> {
     let mut last = 0;
-    let mut j = 0;
-    word(b"head");
-    while j < 27 {
-        let s = head[j];
-        number(s.at);
-        number(s.len);
+    word(out, b"head")?;
+    for s in head {
+        number(out, s.at)?;
+        number(out, s.len)?;
         last = later(last, s);
-        j += 1;
     }
-    end();
-    last
+    end(out)?;
+    Ok(last)
 }
 
 // One row on a line.
-fn tell_row(rows: &[u32], i: usize)
+fn tell_row<W: Write>(out: &mut W, rows: &[u32], i: usize) -> io::Result<()>
     requires { (i + 1) * stride ≤ length rows.now }
 {
-    word(b"row");
-    numbers(rows, i * Plan::STRIDE, i * Plan::STRIDE + Plan::STRIDE);
-    end();
+    word(out, b"row")?;
+    numbers(out, rows, i * Plan::STRIDE, i * Plan::STRIDE + Plan::STRIDE)?;
+    end(out)
 }
 
 // The later of two ends in the text: one, and that of the row's last span.
@@ -77,101 +75,104 @@ fn row_end(rows: &[u32], i: usize, before: usize) -> usize
     requires { (i + 1) * stride ≤ length rows.now }
 {
     let mut last = before;
-    let mut j = 0;
-    while j < 19 {
+    for j in 0..19 {
         last = later(last, span_at(rows, i, j));
-        j += 1;
     }
     last
 }
 
 // The rows, a line each. Answers where the last span of head and rows ends in the text.
-fn tell_rows(rows: &[u32], count: usize, before: usize) -> usize
+fn tell_rows<W: Write>(out: &mut W, rows: &[u32], count: usize, before: usize) -> io::Result<usize>
     requires { count * stride ≤ length rows.now }
 {
     let mut last = before;
-    let mut i = 0;
-    while i < count {
-        tell_row(rows, i);
+    for i in 0..count {
+        tell_row(out, rows, i)?;
         last = row_end(rows, i, last);
-        i += 1;
     }
-    last
+    Ok(last)
 }
 
 // Whether the rows' room holds its pattern from a place on.
 fn rows_kept(rows: &[u32], from: usize) -> bool {
-    let mut i = from;
-    while i < rows.len() {
-        if rows[i] != ROW_PATTERN {
-            return false;
-        }
-        i += 1;
-    }
-    true
+    rows.iter().skip(from).all(|n| *n == ROW_PATTERN)
 }
 
 // Whether the text's room holds its pattern from a place on.
 fn text_kept(text: &[u8], from: usize) -> bool {
-    let mut i = from;
-    while i < text.len() {
-        if text[i] != TEXT_PATTERN {
-            return false;
-        }
-        i += 1;
-    }
-    true
+    text.iter().skip(from).all(|b| *b == TEXT_PATTERN)
 }
 
 // The rooms after a call: the plan's rows and text, and whether the rest is kept.
-fn tell_rooms(rows: &[u32; Plan::NUMBERS], text: &[u8; Plan::TEXT], count: usize, head_end: usize) {
+fn tell_rooms<W: Write>(
+    out: &mut W,
+    rows: &[u32; Plan::NUMBERS],
+    text: &[u8; Plan::TEXT],
+    count: usize,
+    head_end: usize,
+) -> io::Result<()> {
     let n = least(count, Plan::ROWS);
-    let last = least(tell_rows(rows, n, head_end), Plan::TEXT);
-    word(b"text");
-    bytes(text, last);
-    end();
+    let last = least(tell_rows(out, rows, n, head_end)?, Plan::TEXT);
+    word(out, b"text")?;
+    bytes(out, text, last)?;
+    end(out)?;
     if rows_kept(rows, n * Plan::STRIDE) && text_kept(text, last) {
-        word(b"rest kept\n");
+        word(out, b"rest kept\n")
     } else {
-        word(b"rest changed\n");
+        word(out, b"rest changed\n")
     }
 }
 
 // Reads the pages of a call and prints all that it gives.
-fn call<'a>(input: &'a [u8], starts: &'a [usize], lens: &'a [usize]) {
+fn call<'a, W: Write>(
+    out: &mut W,
+    input: &'a [u8],
+    starts: &'a [usize],
+    lens: &'a [usize],
+) -> io::Result<()> {
     let mut rows = [ROW_PATTERN; Plan::NUMBERS];
     let mut text = [TEXT_PATTERN; Plan::TEXT];
     let r = read(input, starts, lens, &mut rows, &mut text);
-    let a = r.answer;
-    tell_answer(a);
+    tell_answer(out, r.answer)?;
     let plan = r.plan;
-    word(b"plan");
-    number(plan.patch);
-    number(plan.rows);
-    end();
-    let head = plan.head;
-    let head_end = tell_head(head);
-    tell_rooms(&rows, &text, plan.rows as usize, head_end);
+    word(out, b"plan")?;
+    number(out, plan.patch)?;
+    number(out, plan.rows)?;
+    end(out)?;
+    let head_end = tell_head(out, plan.head)?;
+    tell_rooms(out, &rows, &text, plan.rows as usize, head_end)
 }
 
 // The call whose pages stand in the first places of two slices.
-fn call_first<'a>(input: &'a [u8], starts: &'a [usize], lens: &'a [usize], count: usize)
+fn call_first<'a, W: Write>(
+    out: &mut W,
+    input: &'a [u8],
+    starts: &'a [usize],
+    lens: &'a [usize],
+    count: usize,
+) -> io::Result<()>
     requires { (count ≤ length starts.now) × (count ≤ length lens.now) }
 {
-    call(input, &starts[0..count], &lens[0..count]);
+    call(out, input, &starts[0..count], &lens[0..count])
 }
 
 // The same, of two arrays.
-fn call_ten<'a>(input: &'a [u8], starts: &'a [usize; 10], lens: &'a [usize; 10], count: usize) {
-    call_first(input, starts, lens, least(count, 10));
+fn call_ten<'a, W: Write>(
+    out: &mut W,
+    input: &'a [u8],
+    starts: &'a [usize; 10],
+    lens: &'a [usize; 10],
+    count: usize,
+) -> io::Result<()> {
+    call_first(out, input, starts, lens, least(count, 10))
 }
 
 // The command.
-pub fn answer(given: &[u8]) {
+pub fn answer<W: Write>(out: &mut W, given: &[u8]) -> io::Result<()> {
     let n = least(given.len(), 12609);
     let input = &given[0..n];
     let mut starts = [0usize; 10];
     let mut lens = [0usize; 10];
     let count = split_pages(input, &mut starts, &mut lens);
-    call_ten(input, &starts, &lens, count);
+    call_ten(out, input, &starts, &lens, count)
 }
