@@ -1,4 +1,5 @@
-// Border: the functions that programs in C and Rust call. Only numbers and byte ranges cross it; a slice crosses as a pointer and a length.
+// Border: the functions that programs in C and Rust call, by way of the crate `tollgilt_c`, which exports them. Only numbers and byte ranges cross it; a slice
+// crosses as a pointer and a length.
 ghost use Rattle.tollgilt.specs.Cells as Cells;
 ghost use Rattle.tollgilt.specs.Find as Find;
 ghost use Rattle.tollgilt.specs.Fresh as Fresh;
@@ -12,8 +13,7 @@ use reader::answer::{refusal_number, refusal_page, refusal_place};
 
 // Lists the pages of a call into `out`, as `list_pages` does. Returns the number of the refusal, 0 for a listing. Tells the length of the listing, and the
 // page and the place of the refusal: the length is 0 for a refusal, page and place are 0 for a listing.
-#[unsafe(no_mangle)]
-pub extern "C" fn tollgilt_list<'a>(
+pub fn tollgilt_list<'a>(
     buffer: &'a [u8],
     starts: &'a [usize],
     lens: &'a [usize],
@@ -33,8 +33,7 @@ pub extern "C" fn tollgilt_list<'a>(
 // Writes the plan of a call's pages as fresh pages into `out`, as `fresh_pages` does. Returns the number of the refusal, 0 for pages. Tells the number of pages,
 // the page and the place of the refusal, and the nine lengths of the pages: number and lengths are 0 for a refusal, page and place are 0 for pages, and the
 // lengths of pages that are not there are 0.
-#[unsafe(no_mangle)]
-pub extern "C" fn tollgilt_fresh<'a>(
+pub fn tollgilt_fresh<'a>(
     buffer: &'a [u8],
     starts: &'a [usize],
     lens: &'a [usize],
@@ -64,8 +63,7 @@ pub extern "C" fn tollgilt_fresh<'a>(
 
 // Finds the rows of a call's plan that hold a package number, as `find_pages` does. Returns the number of the refusal, 0 for a plan. Tells how many rows hold the
 // number, and the page and the place of the refusal: the rows are 0 for a refusal, page and place are 0 for a plan.
-#[unsafe(no_mangle)]
-pub extern "C" fn tollgilt_find<'a>(
+pub fn tollgilt_find<'a>(
     buffer: &'a [u8],
     starts: &'a [usize],
     lens: &'a [usize],
@@ -86,8 +84,7 @@ pub extern "C" fn tollgilt_find<'a>(
 // Lays the text of a printed cell of a call's plan into `out`, as `cell_pages` does. Returns the number of the refusal, 0 for a cell. Tells the length of the text,
 // the page and the place of the refusal, where the text comes from (1 the plan, 2 the catalogue, 0 neither), the flag that "..." follows, the mark that 0 is
 // printed, and how many bytes were left out: for a refusal all but page and place are 0, for a cell page and place are 0.
-#[unsafe(no_mangle)]
-pub extern "C" fn tollgilt_cell<'a>(
+pub fn tollgilt_cell<'a>(
     buffer: &'a [u8],
     starts: &'a [usize],
     lens: &'a [usize],
