@@ -19,7 +19,7 @@ fn main() {
         println!("cargo:rerun-if-changed={}", archive.display());
         assert!(
             archive.exists(),
-            "the archive of `{name}` is not there: run `rt check {name}` and `tools/archive {name}` first"
+            "the archive of `{name}` is not there: run `tools/archive {name}` first"
         );
         println!("cargo:rustc-link-lib=static={name}");
     }

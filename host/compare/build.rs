@@ -11,7 +11,7 @@ fn main() {
     println!("cargo:rerun-if-changed={}", archive.display());
     assert!(
         archive.exists(),
-        "the archive of `probe` is not there: run `rt check probe` and `tools/archive probe` first"
+        "the archive of `probe` is not there: run `tools/archive probe` first"
     );
     println!("cargo:rustc-link-search=native={}", folder.display());
     println!("cargo:rustc-link-lib=static=probe");

@@ -11,7 +11,7 @@ fn main() {
     println!("cargo:rerun-if-changed={}", archive.display());
     assert!(
         archive.exists(),
-        "the archive of `tollgilt` is not there: run `rt check tollgilt` and `tools/archive tollgilt {target}` first"
+        "the archive of `tollgilt` is not there: run `tools/archive tollgilt {target}` first"
     );
     println!("cargo:rustc-link-search=native={}", folder.display());
     println!("cargo:rustc-link-lib=static=tollgilt");
