@@ -9,7 +9,7 @@ use native.Mathlib.Omega.{arith}
 use lib.Dec.{eqb, leb}
 use lib.ListN.{length, take, drop, set, length-set, get_or-replicate, length-replicate}
 use lib.Seq.{drop-drop, take-take, get_or-set_same, get_or-set_other}
-use borrow.Author.Tests.{eqb-true, eqb-false, eq-eqb, ne_eqb, le-leb, leb-true, leb-false}
+use borrow.Author.Tests.{eqb-true, eqb-false, eq-eqb, le-leb, leb-true, leb-false}
 use Rattle.paper.specs.Lists.{if, same}
 use Rattle.paper.specs.Plan.{Plan}
 use Rattle.paper.specs.Judging.{Sheet}

@@ -2,6 +2,8 @@
 // number, equal numbers by row. It is built for rows (`build`) and together with a plan (`reading`), and asked (`ask`); `pairs` has the search and the store.
 //
 // Nothing is required of a call: rows, counts and index may be any numbers. specs/Pairs.antt says which rows and pairs of document 02 numbers show.
+#![tactic(auto)]
+
 pub mod answer;
 pub mod ask;
 pub mod build;

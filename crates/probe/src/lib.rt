@@ -1,5 +1,7 @@
 // Exported functions for the tests alone: they hand the inner layers out to the host, which compares them with the second program.
 // They are no part of the product's border, which is the crate `tollgilt`.
+#![tactic(auto)]
+
 pub mod cells;
 pub mod collecting;
 pub mod indexing;

@@ -16,7 +16,6 @@ use Rattle.paper.specs.Judging.{Sheet}
 use Rattle.paper.specs.Reading.{page9, has, rows_at, joined}
 use Rattle.paper.specs.Calls.{inside, pages_at}
 use Rattle.paper.specs.Layout.{head_values, row_values, rows_values, text_of}
-use Rattle.paper.proofs.Small.{no}
 use Rattle.paper.proofs.CallLaws.{inside_true, pages_count}
 use Rattle.room.specs.Laid.{laid}
 use Rattle.markup.specs.Walk.{tags_at}

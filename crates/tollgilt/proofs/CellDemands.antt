@@ -17,7 +17,7 @@ use Rattle.paper.specs.Plan.{Row}
 use Rattle.paper.specs.Reading as Paper
 use Rattle.paper.specs.Cells.{CellField, Cell, cell, no_cell, own_or, cell_in}
 use Rattle.paper.specs.Calls.{cell_room, inside, pages_at, read_at, cell_call}
-use Rattle.paper.proofs.Small.{no, unequal}
+use Rattle.paper.proofs.Small.{unequal}
 use Rattle.paper.proofs.AnyOrder as Orders
 use Rattle.paper.proofs.AnyOrder.{Perm}
 use Rattle.paper.proofs.CallLaws.{reads_pages}
@@ -28,7 +28,6 @@ use Rattle.paper.proofs.CellRoom.{cell_fits}
 use Rattle.room.specs.Laid.{laid}
 use Rattle.cell.specs.Numbered.{field_of}
 use Rattle.cell.specs.Answers.{source_number}
-use Rattle.cell.specs.declared.answer.Source.{Source}
 use Rattle.cell.specs.declared.answer.Source.TheVariants.{Plan, Catalogue, Neither}
 use Rattle.tollgilt.specs.Cells as Cells
 use Rattle.tollgilt.specs.Cells.{Promised, answered, source_of, answer_of, cell_from}

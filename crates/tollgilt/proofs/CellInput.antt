@@ -31,7 +31,7 @@ use Rattle.cell.specs.declared.answer.Source.{Source}
 use Rattle.cell.specs.declared.answer.Source.TheVariants.{Plan, Catalogue, Neither}
 use Rattle.tollgilt.specs.Cells as Cells
 use Rattle.tollgilt.specs.Cells.{source_of, answer_of, cell_from, answered, Promised, flag_number}
-use Rattle.tollgilt.specs.Printed.{Answer, refusal, prints, asks, asked, shown_lines, cell_lines, cell_printed, cell_behind, plancell, cell_lines_room, cell_answer, length_of, length_told, Prints}
+use Rattle.tollgilt.specs.Printed.{refusal, prints, asked, shown_lines, cell_lines, cell_printed, cell_behind, plancell, cell_lines_room, cell_answer, length_of, length_told, Prints}
 use Rattle.tollgilt.specs.declared.cells.CellShown.{CellShown}
 use Rattle.tollgilt.specs.declared.input.Printed.{Printed}
 use Rattle.tollgilt.specs.declared.input.Printed.TheVariants.{Bytes}

@@ -28,7 +28,7 @@ use Rattle.listing.proofs.Fielded.{print_append}
 use Rattle.room.proofs.Pieces.{Fits, fits_as, fits_whole}
 use Rattle.reader.specs.Answers as Read
 use Rattle.tollgilt.specs.Find.{Promised, answered}
-use Rattle.tollgilt.specs.Printed.{Answer, refusal, prints, row_lines, held_lines, found_lines, found_in, is_asked, asks, number_asked, behind_number, AsksFor, Asks, asked, planfind, found_room, find_answer, length_of, length_told, Prints}
+use Rattle.tollgilt.specs.Printed.{refusal, prints, row_lines, held_lines, found_lines, found_in, is_asked, asks, number_asked, behind_number, AsksFor, Asks, asked, planfind, found_room, find_answer, length_of, length_told, Prints}
 use Rattle.tollgilt.specs.declared.find.Found.{Found}
 use Rattle.tollgilt.specs.declared.input.Printed.{Printed}
 use Rattle.tollgilt.specs.declared.input.Printed.TheVariants.{Bytes}

@@ -3,6 +3,8 @@
 // planfresh, planfind and plancell print.
 //
 // No function that a program calls asks anything of its caller. Its contract determines the answer and every lent byte and number afterwards, for any input.
+#![tactic(auto)]
+
 pub mod border;
 pub mod cells;
 pub mod find;

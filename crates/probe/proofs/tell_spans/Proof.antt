@@ -4,8 +4,6 @@ use Prim.Native.Nat.{◌≤◌, ◌-◌}
 use borrow.Author.Rules.{rules}
 use Rattle.probe.proofs.tell_spans.Statement.{statement}
 use Rattle.probe.proofs.tell_spans.Tie as tie
-use Rattle.probe.proofs.tell_spans.Reads as reads
-use Rattle.probe.proofs.tell_spans.Lts as lts
 
 abbrev invariant-loop : tie.invariant-loop-j
 invariant-loop told₀ head j₀ told j = j ≤ 27

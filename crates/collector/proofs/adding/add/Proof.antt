@@ -6,7 +6,7 @@ use Prim.Native.Nat.{ℕ, ◌+◌, ◌-◌, ◌≤◌}
 use native.Mathlib.Omega.{arith}
 use lib.Dec.{leb}
 use lib.ListN.{length, take, drop}
-use borrow.Author.Tests.{not-true, not-false, leb-true}
+use borrow.Author.Tests.{leb-true}
 use Rattle.collector.specs.Keeping.{added_to, added_call}
 use Rattle.collector.specs.Promise.{Promised}
 use Rattle.collector.proofs.KeepLaws.{promised_same, outside}

@@ -7,7 +7,6 @@ use native.Mathlib.Omega.{arith}
 use lib.ListN.{length, take}
 use lib.Seq.{length-take-le}
 use borrow.Author.Rules.{rules}
-use borrow.Author.Tests.{not-true, not-false}
 use Rattle.paper.specs.Calls.{roomy}
 use Rattle.paper.specs.Reading as Paper
 use Rattle.paper.specs.Reading.{numbers}

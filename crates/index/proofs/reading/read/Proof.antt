@@ -5,7 +5,6 @@ use mathlib.Core.Bool.{true}
 use lib.Dec.{leb}
 use lib.ListN.{length}
 use borrow.Author.Rules.{rules}
-use borrow.Author.Tests.{not-true, not-false}
 use Rattle.paper.specs.Index.{pair_room}
 use Rattle.reader.specs.Promise.{answered}
 use Rattle.index.specs.Pairs.{pairs_lent}

@@ -4,8 +4,6 @@ use Prim.Native.Nat.{◌≤◌, ◌-◌}
 use borrow.Author.Rules.{rules}
 use Rattle.probe.proofs.writing.plan_of.Statement.{statement}
 use Rattle.probe.proofs.writing.plan_of.Tie as tie
-use Rattle.probe.proofs.writing.plan_of.Reads as reads
-use Rattle.probe.proofs.writing.plan_of.Lts as lts
 
 abbrev invariant-loop : tie.invariant-loop-j
 invariant-loop numbers head₀ j₀ head j = j ≤ 27

@@ -4,8 +4,6 @@ use Prim.Native.Nat.{◌≤◌, ◌-◌}
 use borrow.Author.Rules.{rules}
 use Rattle.probe.proofs.writing.tell_lens.Statement.{statement}
 use Rattle.probe.proofs.writing.tell_lens.Tie as tie
-use Rattle.probe.proofs.writing.tell_lens.Reads as reads
-use Rattle.probe.proofs.writing.tell_lens.Lts as lts
 
 abbrev invariant-loop : tie.invariant-loop-k
 invariant-loop told₀ lens k₀ told k = k ≤ 9

@@ -1,6 +1,5 @@
 -- `reader::alone::belong` meets its contract: the two pages are laid onto one tape, one behind the other.
 -- Assumes nothing.
-use mathlib.Core.Path.{◌≡◌, refl, ◌∙◌}
 use native.Mathlib.Omega.{arith}
 use Rattle.reader.proofs.TakenLaws.{page_good, blank_new, made_read, made_still}
 use Rattle.reader.proofs.alone.belong.Statement.{statement}

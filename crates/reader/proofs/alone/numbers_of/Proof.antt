@@ -1,6 +1,5 @@
 -- `reader::alone::numbers_of` meets its contract: the page is laid onto a tape of its own.
 -- Assumes nothing.
-use mathlib.Core.Path.{◌≡◌, refl}
 use native.Mathlib.Omega.{arith}
 use Rattle.reader.specs.Joining.{PageFits}
 use Rattle.reader.proofs.TakenLaws.{page_good, blank_new, made_read}

@@ -3,7 +3,6 @@
 use mathlib.Core.Path.{◌≡◌, sym, ◌∙◌}
 use Prim.Native.Nat.{◌-◌, ◌≤◌}
 use lib.ListN.{length}
-use borrow.Author.Tests.{not-true, not-false}
 use Rattle.paper.specs.Calls.{inside}
 use Rattle.reader.proofs.CallFacts.{unlike, inside_from, outside, within, none_left}
 use borrow.Author.Rules.{rules}

@@ -3,7 +3,6 @@
 use mathlib.Core.Path.{sym, ap, ◌∙◌}
 use mathlib.Core.Bool.{Bool, ◌&&◌}
 use lib.Dec.{leb}
-use borrow.Author.Tests.{not-true, not-false}
 use Rattle.paper.specs.Calls.{text_room}
 use borrow.Author.Rules.{rules}
 use Rattle.reader.proofs.call.room_fits.Statement.{statement}

@@ -1,6 +1,5 @@
 -- `reader::joining::fill_all` meets its contract: the head is laid at the beginning of the text, and the rows behind it.
 -- Assumes nothing.
-use mathlib.Core.Path.{◌≡◌}
 use Prim.Native.Nat.{◌≤◌, ◌<◌}
 use native.Mathlib.Omega.{arith}
 use lib.ListN.{length}

@@ -5,9 +5,7 @@ use Prim.Native.Nat.{◌-◌, ◌≤◌}
 use native.Mathlib.Omega.{arith}
 use lib.ListN.{length}
 use Rattle.paper.specs.Calls.{pages_at}
-use Rattle.paper.proofs.Small.{no_not}
 use Rattle.paper.proofs.CallLaws.{pages_count}
-use Rattle.page.proofs.HeadLaws.{not_false}
 use Rattle.reader.proofs.JoiningLaws.{AlikeTo, alike_one, alike_more, other_here_lem, none_other}
 use Rattle.reader.proofs.joining.first_other.Statement.{statement}
 use Rattle.reader.proofs.joining.first_other.Tie as tie

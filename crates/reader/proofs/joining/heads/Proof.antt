@@ -1,10 +1,10 @@
 -- `reader::joining::heads` meets its contract: each field is what its function says.
 -- Assumes nothing.
 use mathlib.Core.Path.{◌≡◌, ap, ◌∙◌, subst}
-use mathlib.Core.List.{List, []}
-use Prim.Native.Nat.{ℕ, ◌<◌, ◌≤◌}
+use mathlib.Core.List.{List}
+use Prim.Native.Nat.{ℕ, ◌<◌}
 use native.Mathlib.Omega.{arith}
-use lib.ListN.{length, get_or}
+use lib.ListN.{length}
 use Rattle.markup.specs.Walk.{tags_at}
 use Rattle.sheet.specs.Content.{content_of}
 use Rattle.paper.specs.Calls.{pages_at}

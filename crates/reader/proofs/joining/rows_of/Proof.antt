@@ -2,7 +2,7 @@
 -- Assumes nothing.
 use mathlib.Core.Path.{◌≡◌, sym, ap, ◌∙◌}
 use mathlib.Core.List.{List}
-use Prim.Native.Nat.{◌<◌, ◌+◌}
+use Prim.Native.Nat.{◌<◌}
 use native.Mathlib.Omega.{arith}
 use lib.ListN.{length}
 use Rattle.paper.specs.Plan.{Row}
@@ -13,7 +13,6 @@ use Rattle.reader.proofs.JoiningLaws.{no_page, page_there, page_rows}
 use Rattle.reader.proofs.TakenLaws.{called, read_at}
 use Rattle.reader.proofs.joining.rows_of.Statement.{statement}
 use Rattle.reader.proofs.joining.rows_of.Tie as tie
-use borrow.Author.Rules.{rules}
 
 -- where the page of the number stands
 place : (c : tie.After-page_of-i) → c.page_of-i.result ≡ place_of c.before.before.before.before.before.before.args.k (sheets_of (pages_at c.before.before.before.before.before.before.args.buffer.now c.before.before.before.before.before.before.args.starts.now c.before.before.before.before.before.before.args.lens.now))

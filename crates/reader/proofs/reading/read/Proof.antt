@@ -1,8 +1,7 @@
 -- `reader::reading::read` meets its contract: too little room and a call that is not well made are refused with 1, any other call is read over a tape that is room enough.
 -- Assumes nothing.
-use mathlib.Core.Path.{◌≡◌, refl, sym, ◌∙◌}
+use mathlib.Core.Path.{refl, sym, ◌∙◌}
 use native.Mathlib.Omega.{arith}
-use borrow.Author.Tests.{not-true, not-false}
 use Rattle.reader.specs.Promise.{answered}
 use Rattle.reader.proofs.CallFacts.{call_fits_lem}
 use Rattle.reader.proofs.ReadingLaws.{no_room, no_call, refuses}

@@ -1,10 +1,9 @@
 -- `reader::reading::read_on` meets its contract: where all pages are taken by what the tapes say; else by the first page that is refused, or by the pages laid once they are judged.
 -- Assumes nothing.
-use mathlib.Core.Path.{◌≡◌, refl, sym, ◌∙◌}
+use mathlib.Core.Path.{sym, ◌∙◌}
 use mathlib.Core.List.{List}
 use Prim.Native.Nat.{ℕ}
 use native.Mathlib.Omega.{arith}
-use lib.ListN.{length}
 use Rattle.paper.specs.Calls.{pages_at}
 use Rattle.reader.proofs.CallFacts.{call_fits_lem}
 use Rattle.reader.specs.Promise.{answered}

@@ -1,7 +1,6 @@
 -- `reader::reading::read_tapes` meets its contract: each refusal is document 01's where its test is the first that fails, and behind the last test the plan is laid out.
 -- Assumes nothing.
 use mathlib.Core.Path.{◌≡◌, refl, ap, sym, ◌∙◌}
-use mathlib.Core.Bool.{true, ◌&&◌}
 use mathlib.Core.List.{List, []}
 use Prim.Native.Nat.{ℕ, ◌≤◌}
 use native.Mathlib.Omega.{arith}
@@ -9,7 +8,7 @@ use lib.ListN.{length}
 use Rattle.paper.specs.Judging.{Sheet}
 use Rattle.paper.specs.Reading.{numbers, page10, number11, joined}
 use Rattle.paper.specs.Reading as Paper
-use Rattle.paper.specs.Calls.{inside, pages_at}
+use Rattle.paper.specs.Calls.{pages_at}
 use Rattle.plan.specs.Records.{empty_plan}
 use Rattle.reader.specs.Answers.{numbers_of}
 use Rattle.reader.specs.Joining.{sheets_of, first_other, count_said, plan_in, no_plan}

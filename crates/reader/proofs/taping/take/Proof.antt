@@ -1,7 +1,6 @@
 -- `reader::taping::take` meets its contract: a page that is empty or too long is given up.
 -- Assumes nothing.
 use mathlib.Core.Path.{refl}
-use native.Mathlib.Omega.{arith}
 use Rattle.reader.proofs.taping.take.Statement.{statement}
 use Rattle.reader.proofs.taping.take.Tie as tie
 use borrow.Author.Rules.{rules}

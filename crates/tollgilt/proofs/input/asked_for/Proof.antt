@@ -3,7 +3,6 @@
 use mathlib.Core.Path.{sym, ◌∙◌}
 use lib.Seq.{length-take-le}
 use borrow.Author.Rules.{rules}
-use borrow.Author.Tests.{not-true, not-false}
 use Rattle.tollgilt.proofs.FindInput.{no_zero, too_few, too_many, no_digits, a_number}
 use Rattle.tollgilt.proofs.input.asked_for.Statement.{statement}
 use Rattle.tollgilt.proofs.input.asked_for.Tie as tie

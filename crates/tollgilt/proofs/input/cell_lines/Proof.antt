@@ -1,9 +1,8 @@
 -- `tollgilt::input::cell_lines` meets its contract: the five lines stand one behind the other.
 -- Assumes nothing.
-use mathlib.Core.Path.{◌≡◌, refl, sym}
+use mathlib.Core.Path.{◌≡◌, refl}
 use mathlib.Core.List.{List, []}
-use lib.ListN.{length, take, drop}
-use lib.Seq.{length-take-le}
+use lib.ListN.{take, drop}
 use Rattle.paper.specs.Lists.{bytes}
 use Rattle.paper.specs.Listing.{Line, line, numeral, print}
 use Rattle.room.proofs.Pieces.{Fits, fits_as, fits_whole, Going, going_start, going_done, wrote_as, written_whole}

@@ -6,7 +6,6 @@ use native.Mathlib.Omega.{arith}
 use lib.Dec.{leb}
 use lib.ListN.{length, length-take}
 use borrow.Author.Rules.{rules}
-use borrow.Author.Tests.{not-true, not-false}
 use Rattle.paper.specs.Calls.{listing_room}
 use Rattle.tollgilt.proofs.InputLaws.{none_printed, list_no_room, plan_printed, refusal_fits, refusal_printed}
 use Rattle.tollgilt.proofs.input.list_input.Statement.{statement}

@@ -5,7 +5,7 @@ use Prim.Native.Nat.{◌≤◌}
 use native.Mathlib.Omega.{arith}
 use lib.ListN.{length}
 use borrow.Author.Rules.{rules}
-use borrow.Author.Tests.{leb-true, leb-false, not-true, not-false}
+use borrow.Author.Tests.{leb-true, leb-false}
 use Rattle.paper.specs.Calls.{listing_room}
 use Rattle.tollgilt.specs.Promise.{answered}
 use Rattle.tollgilt.proofs.ListLaws.{no_room, nothing_read, nothing_listed, Listable, listable, listed_short, listed}
