@@ -1,5 +1,6 @@
 // Reads lines `element letters value` from standard input, at most 65,536 bytes, and tells of each whether the value keeps its field: 1 or 0;
 // `-` for a dose that reads as absent, `?` where there is no such element or field.
+// A read or a write that fails ends it with status 1 and a line on the error output. It allocates nothing.
 #![tactic(auto)]
 
 ghost use Rattle.std.specs.Prelude.{◌<◌};
@@ -7,10 +8,11 @@ ghost use Rattle.std.specs.Prelude.{◌<◌};
 use fields::dose::is_zero;
 use fields::lookup::{child, count_of, field, first_of, rule_of};
 use fields::rules::keeps_field;
-use std::io::{self, BufWriter, Read, Write};
+use intake::fill;
+use std::io::{self, Write};
 
 // The most bytes of an input that count.
-const INPUT: u64 = 65536;
+const INPUT: usize = 65536;
 
 // The element of a name under any parent, 0 if there is none.
 fn element_of(name: &[u8]) -> u8
@@ -67,9 +69,7 @@ fn lines<W: Write>(out: &mut W, s: &[u8]) -> io::Result<()> {
 }
 
 fn main(rt: HostRuntime) -> io::Result<()> {
-    let mut input = Vec::new(rt.alloc());
-    rt.reader().take(INPUT).read_to_end(&mut input)?;
-    let mut out = BufWriter::new(rt.alloc(), io::writer(&rt))?;
-    lines(&mut out, &input)?;
-    out.flush()
+    let mut input = [0u8; INPUT];
+    let n = fill(&mut rt.stdin(), &mut input)?;
+    lines(&mut io::writer(&rt), &input[..n])
 }

@@ -1,16 +1,17 @@
 // Planfind: reads a package number from standard input, one to eight digits, a zero byte, and then the pages of a medication plan, separated by one zero byte, at
 // most 12,609 bytes, and prints how many rows of their plan hold the number, and which, or the three lines of a refusal. It ends normally on every input, with
-// status 0; a read or a write that fails, and memory that runs out, end it with status 1 and a line on the error output.
+// status 0; a read or a write that fails ends it with status 1 and a line on the error output. It allocates nothing.
 #![tactic(auto)]
 
-use std::io::{self, Read};
+use intake::fill;
+use std::io;
 use tollgilt::input::{ASKING, FOUND, find_input, printed_len};
 
 fn main(rt: HostRuntime) -> io::Result<()> {
-    let mut input = Vec::new(rt.alloc());
-    rt.reader().take(ASKING as u64).read_to_end(&mut input)?;
+    let mut input = [0u8; ASKING];
+    let n = fill(&mut rt.stdin(), &mut input)?;
     let mut out = [0u8; FOUND];
-    let printed = find_input(&input, &mut out);
+    let printed = find_input(&input[..n], &mut out);
     let k = printed_len(printed);
     rt.write_all(&out[..k])
 }

@@ -1,17 +1,18 @@
 // Planlist: reads the pages of a medication plan from standard input, separated by one zero byte, at most 12,609 bytes, and prints the listing of their plan,
-// or the three lines of a refusal. It ends normally on every input, with status 0; a read or a write that fails, and memory that runs out, end it with status 1
-// and a line on the error output.
+// or the three lines of a refusal. It ends normally on every input, with status 0; a read or a write that fails ends it with status 1 and a line on the error
+// output. It allocates nothing.
 #![tactic(auto)]
 
+use intake::fill;
 use plan::Plan;
-use std::io::{self, Read};
+use std::io;
 use tollgilt::input::{INPUT, list_input, printed_len};
 
 fn main(rt: HostRuntime) -> io::Result<()> {
-    let mut input = Vec::new(rt.alloc());
-    rt.reader().take(INPUT as u64).read_to_end(&mut input)?;
+    let mut input = [0u8; INPUT];
+    let n = fill(&mut rt.stdin(), &mut input)?;
     let mut out = [0u8; Plan::LISTING];
-    let printed = list_input(&input, &mut out);
+    let printed = list_input(&input[..n], &mut out);
     let k = printed_len(printed);
     rt.write_all(&out[..k])
 }

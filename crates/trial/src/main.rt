@@ -1,6 +1,7 @@
 // Works through commands from standard input and prints what the proved library answers: a test program, which the host compares with the second program.
 // A command is one letter, four bytes that give the length of what follows, lowest byte first, and that many bytes, at most 65,536. Commands follow
-// each other until the input ends; a command that is too long or cut short ends the work. Each command has a module of its own and an arm of `answer`:
+// each other until the input ends; a command that is too long or cut short ends the work. A read or a write that fails ends the program with status 1 and a line
+// on the error output. It allocates nothing. Each command has a module of its own and an arm of `answer`:
 //   c  takes one step with a collector that is kept from command to command, and prints the answer and what is missing (`collecting`)
 //   k  prints a cell (`cells`)
 //   r  reads pages, one zero byte between them, and prints answer, plan, rows and text (`reading`)
@@ -14,7 +15,8 @@ mod reading;
 ghost use Rattle.std.specs.Prelude.{◌≤◌, length};
 
 use collector::store::Collector;
-use std::io::{self, BufWriter, ErrorKind, Read, Write};
+use intake::fill;
+use std::io::{self, Read, Write};
 
 // A turn: whether a command is answered, and the collector afterwards.
 #[derive(Clone, Copy)]
@@ -81,19 +83,10 @@ fn last(c: Collector) -> Turn {
     }
 }
 
-// Whether a buffer was filled; it was not where the input ended before.
-fn is_filled(read: io::Result<()>) -> io::Result<bool> {
-    match read {
-        Ok(()) => Ok(true),
-        Err(e) if e.kind() == ErrorKind::UnexpectedEof => Ok(false),
-        Err(e) => Err(e),
-    }
-}
-
 // Reads one command and answers it; the last turn if there is none left, or if it is too long or cut short.
 fn next<R: Read, W: Write>(input: &mut R, out: &mut W, c: Collector) -> io::Result<Turn> {
     let mut head = [0u8; 5];
-    if !is_filled(input.read_exact(&mut head))? {
+    if fill(input, &mut head)? < 5 {
         return Ok(last(c));
     }
     let len = number_of(head[1], head[2], head[3], head[4]) as usize;
@@ -101,7 +94,7 @@ fn next<R: Read, W: Write>(input: &mut R, out: &mut W, c: Collector) -> io::Resu
         return Ok(last(c));
     }
     let mut room = [0u8; 65536];
-    if !is_filled(input.read_exact(&mut room[0..len]))? {
+    if fill(input, &mut room[0..len])? < len {
         return Ok(last(c));
     }
     let after = answer_in(out, c, head[0], &room, len)?;
@@ -113,8 +106,8 @@ fn next<R: Read, W: Write>(input: &mut R, out: &mut W, c: Collector) -> io::Resu
 
 // A proved loop has to end, and nothing says that the input does. So the turns are counted, up to a number that no run comes to.
 fn main(rt: HostRuntime) -> io::Result<()> {
-    let mut input = rt.reader();
-    let mut out = BufWriter::new(rt.alloc(), io::writer(&rt))?;
+    let mut input = rt.stdin();
+    let mut out = io::writer(&rt);
     let mut c = Collector::empty();
     for _ in 0..u64::MAX {
         let t = next(&mut input, &mut out, c)?;
@@ -123,5 +116,5 @@ fn main(rt: HostRuntime) -> io::Result<()> {
         }
         c = t.collector;
     }
-    out.flush()
+    Ok(())
 }
