@@ -1,67 +1,46 @@
 // Intake: the input of a program read into a room that it has, up to the end of the room or of the input. Nothing is allocated.
 #![tactic(auto)]
 
-ghost use Rattle.std.specs.Prelude.{◌≡◌, ◌≢◌, ◌↔◌, IsTrue, ℕ, ◌<◌, ◌≤◌, length, take, IfOk, IfErr, OnErr};
+ghost use Rattle.std.specs.Prelude.{ℕ, ◌<◌, ◌≤◌, length, take, IfOk, OnErr};
 ghost use Rattle.std.specs.Io.{ReadsAtMost};
 ghost use Rattle.std.specs.Io.KnownBytes.{Consumes, IsAtEnd};
-ghost use Rattle.std.specs.IoError.{error_kind};
 
-use std::io::{self, ErrorKind, Read};
+use std::io::{self, Read};
 
 // Reads until the room is full or the input ends, and answers how many bytes were read: they stand at the beginning of the room, and the reader
-// has lost them and no more. After an error it has lost some that stand there. A read that a signal interrupts is tried again; since a proved loop
-// has to end, the tries are counted, up to a number that no run comes to.
+// has lost them and no more. After an error it has lost some that stand there.
 pub fn fill<R: Read>(from: &mut R, room: &mut [u8]) -> io::Result<usize>
     ensures within { ReadsAtMost result room.new }
     ensures bytes { IfOk result (λ n. Consumes (R.remaining from.old) (R.remaining from.new) (take n room.new)) }
     ensures end { IfOk result (λ n. n < length room.new → IsAtEnd (R.remaining from.new)) }
     ensures err { OnErr result ((n : ℕ) × (n ≤ length room.new) × Consumes (R.remaining from.old) (R.remaining from.new) (take n room.new)) }
-    ensures retried { IfErr result (λ e. error_kind e ≢ ErrorKind.Interrupted) }
 {
     let mut n = 0;
-    for _ in 0..u64::MAX {
-        if n >= room.len() {
-            return Ok(n);
-        }
+    while n < room.len() {
         match from.read(&mut room[n..]) {
             Ok(0) => return Ok(n),
             Ok(more) => n += more,
-            Err(e) => {
-                if !is_interrupted(&e) {
-                    return Err(e);
-                }
-            }
+            Err(e) => return Err(e),
         }
     }
-    Err(io::Error::new(ErrorKind::TimedOut, "gave up reading after 2^64 tries"))
-}
-
-// Whether a read was interrupted by a signal.
-fn is_interrupted(e: &io::Error) -> bool
-    ensures { IsTrue result ↔ (error_kind e.now ≡ ErrorKind.Interrupted) }
-{
-    e.kind() == ErrorKind::Interrupted
+    Ok(n)
 }
 
 #[cfg(test)]
 mod tests {
     use super::*;
+    use std::io::ErrorKind;
     use std::test::Fail;
 
-    // A reader that gives some bytes, one a read, with an interrupted read before each, and fails behind them or ends.
+    // A reader that gives some bytes, one a read, and fails behind them or ends.
     #[derive(Drop)]
     struct Slow {
         left: u8,
-        waits: bool,
         fails: bool,
     }
 
     impl Read for Slow {
         fn read(&mut self, buf: &mut [u8]) -> io::Result<usize> {
-            self.waits = !self.waits;
-            if self.waits {
-                return Err(io::Error::from(ErrorKind::Interrupted));
-            }
             if self.left == 0 {
                 return if self.fails {
                     Err(io::Error::from(ErrorKind::NotConnected))
@@ -92,10 +71,9 @@ mod tests {
     }
 
     #[test]
-    fn reads_on_where_interrupted(rt: HostRuntime) -> Result<(), Fail> {
+    fn reads_on_after_a_short_read(rt: HostRuntime) -> Result<(), Fail> {
         let mut from = Slow {
             left: 3,
-            waits: false,
             fails: false,
         };
         let mut room = [0u8; 5];
@@ -108,7 +86,6 @@ mod tests {
     fn fails_as_the_reader(rt: HostRuntime) -> Result<(), Fail> {
         let mut from = Slow {
             left: 3,
-            waits: false,
             fails: true,
         };
         let mut room = [0u8; 5];
@@ -118,7 +95,6 @@ mod tests {
         }
         let mut again = Slow {
             left: 5,
-            waits: false,
             fails: true,
         };
         assert_eq!(rt; fill(&mut again, &mut room)?, 5, "the room was full before");

@@ -1,8 +1,11 @@
 -- What stands in the room is what the reader has lost.
-use Rattle.std.proofs.Common.{◌≡◌, ◌≤◌, length, take}
+use Rattle.std.proofs.Common.{◌≡◌, ◌-◌, ◌≤◌, length, take}
 use Rattle.std.specs.Io.KnownBytes.{Consumes}
 use Rattle.intake.proofs.fill.Given as goal
 
-abbrev pub invariant-loop : goal.invariant-loop
-invariant-loop g l = (length l.room ≡ length l.initial.room) × (l.n ≤ length l.room)
+abbrev pub invariant-loop-n : goal.invariant-loop-n
+invariant-loop-n g l = (length l.room ≡ length l.initial.room) × (l.n ≤ length l.room)
     × Consumes (g.R.Read.remaining l.initial.from) (g.R.Read.remaining l.from) (take l.n l.room)
+
+abbrev pub decreases-loop-n : goal.decreases-loop-n
+decreases-loop-n g l = length l.initial.room - l.n
