@@ -1,6 +1,7 @@
 -- Promises: what the promises of a cell say together: one answer, which is document 01's cell; its text a part of the one or the other buffer, the plan's own
 -- first and no catalogue for a dose; within its limit.
 -- Assumes nothing.
+use Rattle.std.specs.Prelude.{Some, None, Option as Maybe, Ok, Err}
 use mathlib.Core.Path.{◌≡◌, refl, sym, ap, subst, ◌∙◌}
 use mathlib.Core.Logic.{◌↔◌}
 use mathlib.Core.Bool.{Bool, true, false, ◌&&◌, ◌||◌}
@@ -25,10 +26,9 @@ use Rattle.cell.specs.declared.Cell as Found
 use Rattle.cell.specs.declared.answer.Shown as Told
 use Rattle.cell.specs.declared.answer.Source.{Source}
 use Rattle.cell.specs.declared.answer.Source.TheVariants.{Plan, Catalogue, Neither}
-use Rattle.cell.specs.declared.answer.Answer.{Answer}
-use Rattle.cell.specs.declared.answer.Answer.TheVariants.{Shown, NoCell}
+use Rattle.cell.specs.declared.answer.NoCell.{NoCell}
 use Rattle.cell.specs.Numbered.{field_of, row_there, row_for, rows_for, own_span, in_range, cell_for, cell_at}
-use Rattle.cell.specs.Answers.{numbers_of, source_number, Values, values_of, buffer, text_of, cell_told, is_dose, place_for, values_as, values_at, Lent, Slice, slice_of, part, text_in}
+use Rattle.cell.specs.Answers.{Answer, numbers_of, source_number, Values, values_of, buffer, text_of, cell_told, is_dose, place_for, values_as, values_at, Lent, Slice, slice_of, part, text_in}
 use Rattle.cell.specs.Found.{whole_shown, begun_shown, cut_shown, shown_found}
 use Rattle.cell.proofs.Values.{stands, medication, named, formed, substances, row_numbered}
 use Rattle.cell.proofs.Told.{for_medication, for_kind, there}
@@ -43,11 +43,11 @@ pub record Promised (rows : List ℕ) (count : ℕ) (t k : Lent) (row n i : ℕ)
 
 -- the answer with those values
 abbrev answer_with : Values → Answer
-answer_with v = if (eqb v.refusal.number 0) (Shown (record { source = v.source; at = v.at; len = v.len; more = v.more; omitted = v.omitted; zero = v.zero })) NoCell
+answer_with v = if (eqb v.refusal.number 0) (Ok (record { source = v.source; at = v.at; len = v.len; more = v.more; omitted = v.omitted; zero = v.zero })) (Err (record {}))
 
 answer_with_lem : (a : Answer) → answer_with (values_of a) ≡ a
-answer_with_lem (Shown s) = refl
-answer_with_lem NoCell = refl
+answer_with_lem (Ok s) = refl
+answer_with_lem (Err x) = refl
 
 -- two answers with the same values are the same
 pub same_answer : (a b : Answer) → values_of a ≡ values_of b → a ≡ b
@@ -75,8 +75,8 @@ source_once x r s e f = e ∙ sym f
 
 -- the bytes of the part that an answer tells are those of the cell that it tells
 told_bytes : (t k : Lent) (a : Answer) → (text_in t k (values_of a)).bytes ≡ text_of (cell_told t.now k.now a)
-told_bytes t k NoCell = refl
-told_bytes t k (Shown s) = ap (λ (b : List ℕ). take s.len (drop s.at b)) (at s.source)
+told_bytes t k (Err x) = refl
+told_bytes t k (Ok s) = ap (λ (b : List ℕ). take s.len (drop s.at b)) (at s.source)
   where
     at : (x : Source) → (buffer x t k).now ≡ buffer x t.now k.now
     at Plan = refl
@@ -92,22 +92,19 @@ module _ (rows : List ℕ) (count : ℕ) (t k : Lent) (row n i : ℕ) (a : Answe
   pub cell_answered : asked ≡ cell_told t.now k.now a
   cell_answered = by_found rows count t.now k.now row n i (λ v. (b : Answer) → values_of b ≡ v → asked ≡ cell_told t.now k.now b) refusal cells a p.answer_is
     where
-      c : Found.Cell
-      c = it rows count t.now k.now row n i
+      refusal : None ≡ it rows count t.now k.now row n i → (b : Answer) → values_of b ≡ values_of (Err (record {})) → asked ≡ cell_told t.now k.now b
+      refusal x b e = no_cell_lem rows count t.now k.now row n i x ∙ ap (cell_told t.now k.now) (sym (same_answer b (Err (record {})) e))
 
-      refusal : c.refused ≡ true → (b : Answer) → values_of b ≡ values_of NoCell → asked ≡ cell_told t.now k.now b
-      refusal x b e = no_cell_lem rows count t.now k.now row n i c refl x ∙ ap (cell_told t.now k.now) (sym (same_answer b NoCell e))
-
-      cells : c.refused ≡ false → (b : Answer) → values_of b ≡ values_of (Shown (shown_found t.now k.now c)) → asked ≡ cell_told t.now k.now b
-      cells x b e = (shown_as rows count t.now k.now row n i c refl x).tells ∙ ap (cell_told t.now k.now) (sym (same_answer b (Shown (shown_found t.now k.now c)) e))
+      cells : (c : Found.Cell) → Some c ≡ it rows count t.now k.now row n i → (b : Answer) → values_of b ≡ values_of (Ok (shown_found t.now k.now c)) → asked ≡ cell_told t.now k.now b
+      cells c x b e = (shown_as rows count t.now k.now row n i c x).tells ∙ ap (cell_told t.now k.now) (sym (same_answer b (Ok (shown_found t.now k.now c)) e))
 
   -- it is refusal 1 exactly where there is none
   pub refused_exactly : ((numbers_of a).number ≡ 1) ↔ (asked ≡ no_cell)
   refused_exactly = at a cell_answered
     where
       at : (b : Answer) → asked ≡ cell_told t.now k.now b → ((numbers_of b).number ≡ 1) ↔ (asked ≡ no_cell)
-      at (Shown s) e = (λ x. absurd (omega (arith, x)), λ x. unequal (cc))
-      at NoCell e = (λ x. e, λ x. refl)
+      at (Ok s) e = (λ x. absurd (omega (arith, x)), λ x. unequal (cc))
+      at (Err y) e = (λ x. e, λ x. refl)
 
   -- ---- as a part of that buffer
 
@@ -122,7 +119,7 @@ module _ (rows : List ℕ) (count : ℕ) (t k : Lent) (row n i : ℕ) (a : Answe
 -- ---- the plan's own text first, and no catalogue for a dose
 
 -- the place of a cell that is shown
-as_shown : (q : Source × ℕ) (x : Cell) (s : Told.Shown) → values_of (Shown s) ≡ values_as q x → (s.source, s.at) ≡ q
+as_shown : (q : Source × ℕ) (x : Cell) (s : Told.Shown) → values_of (Ok s) ≡ values_as q x → (s.source, s.at) ≡ q
 as_shown q (cell t d o m) s e = ap (λ (v : Values). (v.source, v.at)) e
 as_shown q no_cell s e = let z = ap (λ (v : Values). v.refusal.number) e in absurd (omega (arith, z))
 
@@ -151,7 +148,7 @@ of_rows rows count t k row f x d o m = at (row_there rows count row) (in_range t
     at true false e = unequal (cc)
     at false b e = unequal (cc)
 
-module _ (rows : List ℕ) (count : ℕ) (t k : Lent) (row n i : ℕ) (s : Told.Shown) (r : Lent) (p : Promised rows count t k row n i (Shown s) r) (f : CellField) (e : field_of n i ≡ some f) where
+module _ (rows : List ℕ) (count : ℕ) (t k : Lent) (row n i : ℕ) (s : Told.Shown) (r : Lent) (p : Promised rows count t k row n i (Ok s) r) (f : CellField) (e : field_of n i ≡ some f) where
   -- the record of the row, and the rows that the numbers stand for
   abbrev record_at_lem : List ℕ
   record_at_lem = record_at rows (row - 1)
@@ -164,12 +161,12 @@ module _ (rows : List ℕ) (count : ℕ) (t k : Lent) (row n i : ℕ) (s : Told.
   told_text = take s.len (drop s.at (buffer s.source t.now k.now))
 
   told_long : length told_text ≡ s.len
-  told_long = let h = (part_of rows count t k row n i (Shown s) r p).1 in simp (length-take, length-drop) (omega (arith, h))
+  told_long = let h = (part_of rows count t k row n i (Ok s) r p).1 in simp (length-take, length-drop) (omega (arith, h))
 
   -- the cell is that of the field
   field_cell : cell_for rows count t.now k.now row (some f) ≡ cell told_text s.more s.omitted s.zero
   unfolding cell_at
-  field_cell = ap (cell_for rows count t.now k.now row) (sym e) ∙ cell_answered rows count t k row n i (Shown s) r p
+  field_cell = ap (cell_for rows count t.now k.now row) (sym e) ∙ cell_answered rows count t k row n i (Ok s) r p
 
   shown_cell : (row_there rows count row ≡ true) × (cell_in rows_for_lem row f k.now ≡ cell told_text s.more s.omitted s.zero)
   shown_cell = of_rows rows count t.now k.now row f told_text s.more s.omitted s.zero field_cell
@@ -297,22 +294,23 @@ some_found t k c = at (eqb c.limit 0) (eqb c.own.len 0) refl (eqb (length k) 0) 
     at false false u y v e h = some_cut Plan t c.own.at c.own.len c.limit (some c.own.len u) e
 
 module _ (rows : List ℕ) (count : ℕ) (t k : List ℕ) (row n i : ℕ) (x : List ℕ) (d : Bool) (o : ℕ) (m : Bool) (e : cell_at rows count t k row n i ≡ cell x d o m) where
+  -- a cell is found
+  found_here : (c : Found.Cell) × (Some c ≡ it rows count t k row n i)
+  found_here = at (it rows count t k row n i) refl
+    where
+      at : (y : Maybe Found.Cell) → y ≡ it rows count t k row n i → (c : Found.Cell) × (Some c ≡ it rows count t k row n i)
+      at None r = let z : no_cell ≡ cell x d o m = sym (no_cell_lem rows count t k row n i r) ∙ e in unequal (cc)
+      at (Some c) r = (c, r)
+
   -- what is shown
   abbrev shown_here : Told.Shown
-  shown_here = shown_found t k (it rows count t k row n i)
-
-  not_refused : (it rows count t k row n i).refused ≡ false
-  not_refused = at (it rows count t k row n i).refused refl
-    where
-      at : (b : Bool) → (it rows count t k row n i).refused ≡ b → b ≡ false
-      at true r = let z : no_cell ≡ cell x d o m = sym (no_cell_lem rows count t k row n i (it rows count t k row n i) refl r) ∙ e in unequal (cc)
-      at false r = refl
+  shown_here = shown_found t k found_here.0
 
   shows_it : Shows t k (cell_at rows count t k row n i) (place_for (record_at rows (row - 1)) (field_of n i) k) shown_here
-  shows_it = shown_as rows count t k row n i (it rows count t k row n i) refl not_refused
+  shows_it = shown_as rows count t k row n i found_here.0 found_here.1
 
   -- the cell is what it tells
-  told_is : cell x d o m ≡ cell_told t k (Shown shown_here)
+  told_is : cell x d o m ≡ cell_told t k (Ok shown_here)
   told_is = sym e ∙ shows_it.tells
 
   told_length : shown_here.len ≡ length x
@@ -320,7 +318,8 @@ module _ (rows : List ℕ) (count : ℕ) (t k : List ℕ) (row n i : ℕ) (x : L
       let s = shown_here in
       let same : x ≡ take s.len (drop s.at (buffer s.source t k)) = ap text_of told_is in
       let h = shows_it.inside in
-      rw same (simp (length-take, length-drop) (omega (arith, h)))
+      let long : length (take s.len (drop s.at (buffer s.source t k))) ≡ s.len = simp (length-take, length-drop) (omega (arith, h)) in
+      sym (ap length same ∙ long)
 
   -- a text that comes from a buffer is not empty
   some_text : (shown_here.source ≡ Neither → ⊥) → 1 ≤ length x
@@ -333,13 +332,13 @@ module _ (rows : List ℕ) (count : ℕ) (t k : List ℕ) (row n i : ℕ) (x : L
 
       at : (b : Bool) → d ≡ b → 1 ≤ length x
       at true q = by (field_of n i) (e ∙ ap (λ (b : Bool). cell x b o m) q)
-      at false q = let whole : shown_here.more ≡ false = sym (ap flag_of told_is) ∙ q in let h = some_found t k (it rows count t k row n i) whole h in omega (arith, told_length)
+      at false q = let whole : shown_here.more ≡ false = sym (ap flag_of told_is) ∙ q in let h = some_found t k found_here.0 whole h in omega (arith, told_length)
 
   -- it comes from neither buffer exactly where it is empty
   pub from_neither : ((place_for (record_at rows (row - 1)) (field_of n i) k).0 ≡ Neither) ↔ (x ≡ [])
   from_neither =
       let source : (place_for (record_at rows (row - 1)) (field_of n i) k).0 ≡ shown_here.source = ap (λ (p : Source × ℕ). p.0) shows_it.place in
-      (λ q. nil x (sym told_length ∙ (empty_found t k (it rows count t k row n i) (sym source ∙ q)).1), λ q. source ∙ at shown_here.source (λ z. some_text z) q)
+      (λ q. nil x (sym told_length ∙ (empty_found t k found_here.0 (sym source ∙ q)).1), λ q. source ∙ at shown_here.source (λ z. some_text z) q)
     where
       nil : (v : List ℕ) → length v ≡ 0 → v ≡ []
       nil [] q = refl

@@ -1,5 +1,6 @@
 -- Shows: what the code answers of the cell that it has found is what document 01 answers, and a part of its buffer.
 -- Assumes nothing.
+use Rattle.std.specs.Prelude.{Some, None, Option as Maybe, IfSome, Ok, Err}
 use mathlib.Core.Path.{◌≡◌, refl, sym, ap, subst, ◌∙◌}
 use mathlib.Core.Bool.{Bool, true, false, ◌||◌}
 use mathlib.Core.List.{List, [], ◌∷◌}
@@ -28,10 +29,10 @@ use Rattle.cell.specs.declared.Cell as Found
 use Rattle.cell.specs.declared.answer.Shown as Told
 use Rattle.cell.specs.declared.answer.Source.{Source}
 use Rattle.cell.specs.declared.answer.Source.TheVariants.{Plan, Catalogue, Neither}
-use Rattle.cell.specs.declared.answer.Answer.TheVariants.{Shown, NoCell}
+use Rattle.cell.specs.declared.answer.NoCell.{NoCell}
 use Rattle.cell.specs.Numbered.{field_of, row_there, cell_at}
 use Rattle.cell.specs.Answers.{Values, values_of, buffer, cell_told, place_for, values_as, values_at, Lent, Slice, part, text_in}
-use Rattle.cell.specs.Found.{none_found, text_found, time_found, free_found, three_found, field_found, held, is_medication, row_found, found, Roomy, whole_shown, begun_shown, cut_shown, shown_found}
+use Rattle.cell.specs.Found.{text_found, time_found, free_found, three_found, field_found, held, is_medication, row_found, found, Roomy, whole_shown, begun_shown, cut_shown, shown_found}
 use Rattle.cell.proofs.Told.{told_shown, told, cell_told_lem}
 use Rattle.cell.proofs.Placed.{place_found, there_found}
 use Rattle.cell.proofs.Cuts.{shown_of_part}
@@ -42,15 +43,12 @@ use Rattle.cell.proofs.Cuts.{shown_of_part}
 abbrev Sound : ℕ → Found.Cell → Type 0
 Sound size c = Roomy c × (within size (paper_span c.own) ≡ true)
 
-roomy_none : Roomy none_found
-roomy_none h = absurd (h refl)
-
-roomy_three : (texts : List Code.Span) (j i n : ℕ) → 3 ≤ n → Roomy (three_found texts j i n)
+roomy_three : (texts : List Code.Span) (j i n : ℕ) → 3 ≤ n → IfSome (three_found texts j i n) Roomy
 roomy_three texts j i n h = at (of_three i)
   where
-    at : (b : Bool) → Roomy (if b (text_found (get_or texts (j + 2 * i) no_span) n) none_found)
-    at true q = h
-    at false q = absurd (q refl)
+    at : (b : Bool) → IfSome (if b (Some (text_found (get_or texts (j + 2 * i) no_span) n)) None) Roomy
+    at true = λ q. h
+    at false = tt
 
 roomy_time : (w : Times → Code.Span) (d : Dose) → Roomy (time_found w d)
 roomy_time w (Scheme x) h = absurd (h refl)
@@ -62,30 +60,31 @@ roomy_free (Scheme x) h = absurd (h refl)
 roomy_free (Free s) h = absurd (h refl)
 roomy_free Unstated h = absurd (h refl)
 
-roomy_field : (r : Row) (o : Option CellField) → Roomy (field_found r o)
-roomy_field r none h = absurd (h refl)
-roomy_field r (some name) h = omega arith
-roomy_field r (some form) h = omega arith
-roomy_field r (some (substance i)) h = roomy_three r.texts 6 i 80 (omega arith) h
-roomy_field r (some (strength i)) h = roomy_three r.texts 7 i 15 (omega arith) h
-roomy_field r (some morning) h = roomy_time (λ x. x.morning) r.dose h
-roomy_field r (some midday) h = roomy_time (λ x. x.midday) r.dose h
-roomy_field r (some evening) h = roomy_time (λ x. x.evening) r.dose h
-roomy_field r (some night) h = roomy_time (λ x. x.night) r.dose h
-roomy_field r (some free_dose) h = roomy_free r.dose h
+roomy_field : (r : Row) (o : Option CellField) → IfSome (field_found r o) Roomy
+roomy_field r none = tt
+roomy_field r (some name) = λ h. omega arith
+roomy_field r (some form) = λ h. omega arith
+roomy_field r (some (substance i)) = roomy_three r.texts 6 i 80 (omega arith)
+roomy_field r (some (strength i)) = roomy_three r.texts 7 i 15 (omega arith)
+roomy_field r (some morning) = roomy_time (λ x. x.morning) r.dose
+roomy_field r (some midday) = roomy_time (λ x. x.midday) r.dose
+roomy_field r (some evening) = roomy_time (λ x. x.evening) r.dose
+roomy_field r (some night) = roomy_time (λ x. x.night) r.dose
+roomy_field r (some free_dose) = roomy_free r.dose
 
-sound_held : (size : ℕ) (c : Found.Cell) → Roomy c → Sound size (held size c)
-sound_held size c f = at (within size (paper_span c.own)) refl
+sound_held : (size : ℕ) (o : Maybe Found.Cell) → IfSome o Roomy → IfSome (held size o) (Sound size)
+sound_held size None f = tt
+sound_held size (Some c) f = at (within size (paper_span c.own)) refl
   where
-    at : (b : Bool) → within size (paper_span c.own) ≡ b → Sound size (if b c none_found)
+    at : (b : Bool) → within size (paper_span c.own) ≡ b → IfSome (if b (Some c) None) (Sound size)
     at true e = (f, e)
-    at false e = (roomy_none, refl)
+    at false e = tt
 
-sound_if : (size : ℕ) (b : Bool) (c : Found.Cell) → Sound size c → Sound size (if b c none_found)
-sound_if size true c s = s
-sound_if size false c s = (roomy_none, refl)
+sound_if : (size : ℕ) (b : Bool) (o : Maybe Found.Cell) → IfSome o (Sound size) → IfSome (if b o None) (Sound size)
+sound_if size true o s = s
+sound_if size false o s = tt
 
-sound_found : (rows : List ℕ) (count size row : ℕ) (o : Option CellField) → Sound size (found rows count size row o)
+sound_found : (rows : List ℕ) (count size row : ℕ) (o : Option CellField) → IfSome (found rows count size row o) (Sound size)
 unfolding found
 sound_found rows count size row o =
     let r = row_in (record_at rows (row - 1)) in
@@ -95,12 +94,12 @@ sound_found rows count size row o =
 
 -- what is shown tells the cell x, whose text begins at the place p, and lies in its buffer
 pub record Shows (t k : List ℕ) (x : Cell) (p : Source × ℕ) (s : Told.Shown) : Type 0 where
-  pub tells : x ≡ cell_told t k (Shown s)
+  pub tells : x ≡ cell_told t k (Ok s)
   pub inside : s.at + s.len ≤ length (buffer s.source t k)
   pub place : p ≡ (s.source, s.at)
 
 -- so it has the values that document 01 gives the cell
-pub values_are : (t k : List ℕ) (x : Cell) (p : Source × ℕ) (s : Told.Shown) → Shows t k x p s → values_of (Shown s) ≡ values_as p x
+pub values_are : (t k : List ℕ) (x : Cell) (p : Source × ℕ) (s : Told.Shown) → Shows t k x p s → values_of (Ok s) ≡ values_as p x
 values_are t k x p s S =
     let long : length (take s.len (drop s.at (buffer s.source t k))) ≡ s.len = simp (length-take, length-drop) (omega (arith, S.inside)) in
     rw (S.tells, S.place, long)
@@ -168,37 +167,36 @@ module _ (t : List ℕ) (c : Found.Cell) (w : within (length t) (paper_span c.ow
 
 -- ---- the cell that is asked for
 
-module _ (rows : List ℕ) (count : ℕ) (t k : List ℕ) (row n i : ℕ) (c : Found.Cell) (e : c ≡ found rows count (length t) row (field_of n i)) where
-  sound : Sound (length t) c
-  sound = subst (Sound (length t)) (sym e) (sound_found rows count (length t) row (field_of n i))
+module _ (rows : List ℕ) (count : ℕ) (t k : List ℕ) (row n i : ℕ) where
+  cell_is : (o : Maybe Found.Cell) → o ≡ found rows count (length t) row (field_of n i) → told t k o ≡ cell_at rows count t k row n i
+  cell_is o e = ap (told t k) e ∙ cell_told_lem t k rows count row n i
 
-  cell_is : told t k c ≡ cell_at rows count t k row n i
-  cell_is = ap (told t k) e ∙ cell_told_lem t k rows count row n i
+  module _ (e : None ≡ found rows count (length t) row (field_of n i)) where
+    -- where none is found, it is document 01's refusal
+    pub no_cell_lem : cell_at rows count t k row n i ≡ no_cell
+    no_cell_lem = sym (cell_is None e)
 
-  -- a limit leaves room, and a value lies in the text
-  pub roomy : Roomy c × (within (length t) (paper_span c.own) ≡ true)
-  roomy = sound
+    pub refuses : (x : NoCell) → values_of (Err x) ≡ values_at rows count t k row n i
+    unfolding values_at
+    refuses x = rw no_cell_lem
 
-  -- a cell that is refused is document 01's refusal
-  pub no_cell_lem : c.refused ≡ true → cell_at rows count t k row n i ≡ no_cell
-  no_cell_lem r = sym cell_is ∙ rw r
+  module _ (c : Found.Cell) (e : Some c ≡ found rows count (length t) row (field_of n i)) where
+    -- a limit leaves room, and a value lies in the text
+    pub roomy : Roomy c × (within (length t) (paper_span c.own) ≡ true)
+    roomy = subst (λ (o : Maybe Found.Cell). IfSome o (Sound (length t))) (sym e) (sound_found rows count (length t) row (field_of n i))
 
-  pub refuses : c.refused ≡ true → values_of NoCell ≡ values_at rows count t k row n i
-  unfolding values_at
-  refuses r = rw (no_cell_lem r)
+    -- a cell that is found is shown as document 01 shows it
+    pub shown_as : Shows t k (cell_at rows count t k row n i) (place_for (record_at rows (row - 1)) (field_of n i) k) (shown_found t k c)
+    shown_as =
+        let l = record_at rows (row - 1) in
+        let x : cell_at rows count t k row n i ≡ told_shown t k c = sym (cell_is (Some c) e) in
+        let p = subst (λ (o : Maybe Found.Cell). IfSome o (λ d. place_for l (field_of n i) k ≡ place_found k d)) (sym e) (there_found k rows count (length t) row (field_of n i)) in
+        let S = found_shows t c roomy.1 k in
+        record { tells = x ∙ S.tells; inside = S.inside; place = p ∙ S.place }
 
-  -- any other is shown as document 01 shows it
-  pub shown_as : c.refused ≡ false → Shows t k (cell_at rows count t k row n i) (place_for (record_at rows (row - 1)) (field_of n i) k) (shown_found t k c)
-  shown_as r =
-      let l = record_at rows (row - 1) in
-      let x : cell_at rows count t k row n i ≡ told_shown t k c = sym cell_is ∙ rw r in
-      let p = subst (λ (d : Found.Cell). d.refused ≡ false → place_for l (field_of n i) k ≡ place_found k d) (sym e) (there_found k rows count (length t) row (field_of n i)) r in
-      let S = found_shows t c sound.1 k in
-      record { tells = x ∙ S.tells; inside = S.inside; place = p ∙ S.place }
-
-  pub showing : c.refused ≡ false → values_of (Shown (shown_found t k c)) ≡ values_at rows count t k row n i
-  unfolding values_at
-  showing r = values_are t k (cell_at rows count t k row n i) (place_for (record_at rows (row - 1)) (field_of n i) k) (shown_found t k c) (shown_as r)
+    pub showing : values_of (Ok (shown_found t k c)) ≡ values_at rows count t k row n i
+    unfolding values_at
+    showing = values_are t k (cell_at rows count t k row n i) (place_for (record_at rows (row - 1)) (field_of n i) k) (shown_found t k c) shown_as
 
 -- ---- any answer
 
@@ -210,18 +208,18 @@ Inside t k v = v.at + v.len ≤ length (buffer v.source t k)
 abbrev pub Empty : Values → Type 0
 Empty v = v.source ≡ Neither → (v.at ≡ 0) × (v.len ≡ 0)
 
-empty_cut : (s : Source) (w : List ℕ) (a n limit : ℕ) → (s ≡ Neither → ⊥) → Empty (values_of (Shown (cut_shown s w a n limit)))
+empty_cut : (s : Source) (w : List ℕ) (a n limit : ℕ) → (s ≡ Neither → ⊥) → Empty (values_of (Ok (cut_shown s w a n limit)))
 empty_cut s w a n limit h = at (leb n limit)
   where
-    at : (b : Bool) → Empty (values_of (Shown (if b (whole_shown s a n false) (begun_shown s a n (shown_of limit (drop a w))))))
+    at : (b : Bool) → Empty (values_of (Ok (if b (whole_shown s a n false) (begun_shown s a n (shown_of limit (drop a w))))))
     at true e = absurd (h e)
     at false e = absurd (h e)
 
-pub empty_found : (t k : List ℕ) (c : Found.Cell) → Empty (values_of (Shown (shown_found t k c)))
+pub empty_found : (t k : List ℕ) (c : Found.Cell) → Empty (values_of (Ok (shown_found t k c)))
 empty_found t k c = at (eqb c.limit 0) (eqb c.own.len 0) (eqb (length k) 0)
   where
     at : (b z y : Bool)
-        → Empty (values_of (Shown (if b (if z (whole_shown Neither 0 0 c.zero) (whole_shown Plan c.own.at c.own.len c.zero))
+        → Empty (values_of (Ok (if b (if z (whole_shown Neither 0 0 c.zero) (whole_shown Plan c.own.at c.own.len c.zero))
         (if z (if y (whole_shown Neither 0 0 false) (cut_shown Catalogue k 0 (length k) c.limit)) (cut_shown Plan t c.own.at c.own.len c.limit)))))
     at true true y = λ e. (refl, refl)
     at true false y = λ e. unequal (cc)
@@ -231,22 +229,22 @@ empty_found t k c = at (eqb c.limit 0) (eqb c.own.len 0) (eqb (length k) 0)
 
 module _ (rows : List ℕ) (count : ℕ) (t k : List ℕ) (row n i : ℕ) where
   -- what is found
-  abbrev pub it : Found.Cell
+  abbrev pub it : Maybe Found.Cell
   it = found rows count (length t) row (field_of n i)
 
-  -- a fact about values holds of those that a call is answered with, if it holds of those of a cell that is refused, and of one that is shown
-  pub by_found : (P : Values → Type 0) → (it.refused ≡ true → P (values_of NoCell)) → (it.refused ≡ false → P (values_of (Shown (shown_found t k it)))) → P (values_at rows count t k row n i)
-  by_found P p q = at it.refused refl
+  -- a fact about values holds of those that a call is answered with, if it holds of those where none is found, and of those of one that is
+  pub by_found : (P : Values → Type 0) → (None ≡ it → P (values_of (Err (record {})))) → ((c : Found.Cell) → Some c ≡ it → P (values_of (Ok (shown_found t k c)))) → P (values_at rows count t k row n i)
+  by_found P p q = at it refl
     where
-      at : (b : Bool) → it.refused ≡ b → P (values_at rows count t k row n i)
-      at true r = subst P (refuses rows count t k row n i it refl r) (p r)
-      at false r = subst P (showing rows count t k row n i it refl r) (q r)
+      at : (o : Maybe Found.Cell) → o ≡ it → P (values_at rows count t k row n i)
+      at None r = subst P (refuses rows count t k row n i r (record {})) (p r)
+      at (Some c) r = subst P (showing rows count t k row n i c r) (q c r)
 
   pub inside : Inside t k (values_at rows count t k row n i)
-  inside = by_found (Inside t k) (λ r. omega arith) (λ r. (shown_as rows count t k row n i it refl r).inside)
+  inside = by_found (Inside t k) (λ r. omega arith) (λ c r. (shown_as rows count t k row n i c r).inside)
 
   pub neither : Empty (values_at rows count t k row n i)
-  neither = by_found Empty (λ r e. (refl, refl)) (λ r. empty_found t k it)
+  neither = by_found Empty (λ r e. (refl, refl)) (λ c r. empty_found t k c)
 
 -- ---- the text of an answer
 
@@ -262,7 +260,7 @@ module _ (rows : List ℕ) (count : ℕ) (t k : Lent) (row n i : ℕ) where
   abbrev values : Values
   values = values_at rows count t.now k.now row n i
 
-  module _ (s : Told.Shown) (e : values_of (Shown s) ≡ values) where
+  module _ (s : Told.Shown) (e : values_of (Ok s) ≡ values) where
     -- the part of its source's slice lies in it, and is the text
     pub part_lies : (from : Source) → s.source ≡ from → s.at + s.len ≤ length (buffer from t.now k.now)
     part_lies from q = subst (λ (x : Source). s.at + s.len ≤ length (buffer x t.now k.now)) q (subst (Inside t.now k.now) (sym e) (inside rows count t.now k.now row n i))
@@ -276,5 +274,5 @@ module _ (rows : List ℕ) (count : ℕ) (t k : Lent) (row n i : ℕ) where
         let (a, l) = subst Empty (sym e) (neither rows count t.now k.now row n i) q in
         start_is t ∙ rw (a, l) at (part_is Neither q)
 
-  pub refused_is : values_of NoCell ≡ values → start t ≡ text_in t k values
-  refused_is e = start_is t ∙ ap (text_in t k) e
+  pub refused_is : (x : NoCell) → values_of (Err x) ≡ values → start t ≡ text_in t k values
+  refused_is x e = start_is t ∙ ap (text_in t k) e

@@ -1,5 +1,6 @@
 -- Told: what the code finds of a cell tells the cell of the numbers.
 -- Assumes nothing.
+use Rattle.std.specs.Prelude.{Some, None, Option as Maybe}
 use mathlib.Core.Path.{◌≡◌, refl, sym, ap, ◌∙◌}
 use mathlib.Core.Bool.{Bool, true, false, not, ◌&&◌}
 use mathlib.Core.List.{List, [], ◌∷◌, map}
@@ -24,27 +25,27 @@ use Rattle.plan.specs.Records as R
 use Rattle.plan.specs.declared.Span as Code
 use Rattle.plan.specs.declared.Times.{Times}
 use Rattle.plan.specs.declared.Dose.TheVariants.{Scheme, Free, Unstated}
-use Rattle.plan.specs.declared.Row as Taken
 use Rattle.cell.specs.declared.Cell as Found
 use Rattle.cell.specs.Numbered.{field_of, row_there, stands_for, row_for, rows_for, no_value, in_range, cell_for, cell_at}
-use Rattle.cell.specs.Found.{none_found, text_found, dose_found, time_of, time_found, free_found, three_found, field_found, held, is_medication, row_found, found}
+use Rattle.cell.specs.Found.{text_found, dose_found, time_of, time_found, free_found, three_found, field_found, held, is_medication, row_found, found}
 use Rattle.cell.proofs.Values.{stands, medication, named, formed, dosed, substances, row_numbered}
 
--- the cell that is told, with that text and that catalogue: of one that is not refused, and of any
+-- the cell that is told, with that text and that catalogue: of one that is found, and where there may be none
 abbrev pub told_shown : List ℕ → List ℕ → Found.Cell → Cell
 told_shown t k c = if (eqb c.limit 0) (cell (shown t (paper_span c.own)) false 0 c.zero) (cut_to c.limit (own_or (shown t (paper_span c.own)) k))
 
-abbrev pub told : List ℕ → List ℕ → Found.Cell → Cell
-told t k c = if c.refused no_cell (told_shown t k c)
+abbrev pub told : List ℕ → List ℕ → Maybe Found.Cell → Cell
+told t k None = no_cell
+told t k (Some c) = told_shown t k c
 
 -- ---- a cell with a limit
 
 module _ (t k : List ℕ) where
   -- it is refused where its value points outside the text
-  limit_told : (s : Span) (n : ℕ) → eqb n 0 ≡ false → told t k (held (length t) (text_found (code_span s) n)) ≡ if (within (length t) s) (cut_to n (own_or (stands_for t s) k)) no_cell
+  limit_told : (s : Span) (n : ℕ) → eqb n 0 ≡ false → told t k (held (length t) (Some (text_found (code_span s) n))) ≡ if (within (length t) s) (cut_to n (own_or (stands_for t s) k)) no_cell
   limit_told s n e = at (within (length t) s)
     where
-      at : (b : Bool) → told t k (if b (text_found (code_span s) n) none_found) ≡ if b (cut_to n (own_or (if b (shown t s) (replicate s.len 0)) k)) no_cell
+      at : (b : Bool) → told t k (if b (Some (text_found (code_span s) n)) None) ≡ if b (cut_to n (own_or (if b (shown t s) (replicate s.len 0)) k)) no_cell
       at true = rw e
       at false = refl
 
@@ -53,7 +54,7 @@ module _ (t k : List ℕ) where
       → told t k (held (length t) (three_found texts j i n)) ≡ if (within (length t) s) (if (of_three i) (cut_to n (own_or v k)) no_cell) no_cell
   three_told texts j i n s v e f = at (of_three i) refl
     where
-      at : (b : Bool) → of_three i ≡ b → told t k (held (length t) (if b (text_found (get_or texts (j + 2 * i) no_span) n) none_found)) ≡ if (within (length t) s) (if b (cut_to n (own_or v k)) no_cell) no_cell
+      at : (b : Bool) → of_three i ≡ b → told t k (held (length t) (if b (Some (text_found (get_or texts (j + 2 * i) no_span) n)) None)) ≡ if (within (length t) s) (if b (cut_to n (own_or v k)) no_cell) no_cell
       at false q = sym (if_same (within (length t) s) no_cell)
       at true q =
           let (a, b) = both (leb 1 i) (leb i 3) q in
@@ -68,10 +69,10 @@ module _ (t k : List ℕ) where
   by_tests m d v h (c ∷ x) = refl
 
   -- a dose cell is refused where its value points outside the text
-  value_told : (s : Span) (v : List ℕ) (z y : Bool) → v ≡ stands_for t s → y ≡ z → told t k (held (length t) (dose_found (code_span s) z)) ≡ if (within (length t) s) (cell v false 0 y) no_cell
+  value_told : (s : Span) (v : List ℕ) (z y : Bool) → v ≡ stands_for t s → y ≡ z → told t k (held (length t) (Some (dose_found (code_span s) z))) ≡ if (within (length t) s) (cell v false 0 y) no_cell
   value_told s v z y e f = rw (e, f) (at (within (length t) s))
     where
-      at : (b : Bool) → told t k (if b (dose_found (code_span s) z) none_found) ≡ if b (cell (if b (shown t s) (replicate s.len 0)) false 0 z) no_cell
+      at : (b : Bool) → told t k (if b (Some (dose_found (code_span s) z)) None) ≡ if b (cell (if b (shown t s) (replicate s.len 0)) false 0 z) no_cell
       at true = refl
       at false = refl
 
@@ -92,24 +93,24 @@ module _ (t k : List ℕ) where
     -- a time of day
     time_told : (w : Times → Code.Span) (u : List ℕ → List ℕ → List ℕ → List ℕ → List ℕ) (s : Span) → w times ≡ code_span s → u (stands_for t m) (stands_for t d) (stands_for t v) (stands_for t h) ≡ stands_for t s
         → (untimed ≡ true → absent s ≡ true)
-        → told t k (held (length t) (time_found w (R.dose_from times (code_span x))))
+        → told t k (held (length t) (Some (time_found w (R.dose_from times (code_span x)))))
         ≡ if (within (length t) (if (not (absent x)) no_value s)) (time_cell u (dose_from (stands_for t m) (stands_for t d) (stands_for t v) (stands_for t h) (stands_for t x))) no_cell
     time_told w u s e f g = rw dose_stands (at (absent x) untimed refl)
       where
         at : (a b : Bool) → untimed ≡ b
-            → told t k (held (length t) (time_found w (if a (if b Unstated (Scheme times)) (Free (code_span x)))))
+            → told t k (held (length t) (Some (time_found w (if a (if b Unstated (Scheme times)) (Free (code_span x))))))
             ≡ if (within (length t) (if (not a) no_value s)) (time_cell u (if a (if b unstated (scheme (stands_for t m) (stands_for t d) (stands_for t v) (stands_for t h))) (free_text (stands_for t x)))) no_cell
         at false b q = refl
         at true true q = rw (g q)
         at true false q = rw e (value_told s (u (stands_for t m) (stands_for t d) (stands_for t v) (stands_for t h)) (absent s) (is_empty (u (stands_for t m) (stands_for t d) (stands_for t v) (stands_for t h))) f (ap is_empty f ∙ stands t s))
 
     -- the free text
-    free_told : told t k (held (length t) (free_found (R.dose_from times (code_span x))))
+    free_told : told t k (held (length t) (Some (free_found (R.dose_from times (code_span x)))))
         ≡ if (within (length t) x) (free_cell (dose_from (stands_for t m) (stands_for t d) (stands_for t v) (stands_for t h) (stands_for t x))) no_cell
     free_told = rw dose_stands (at (absent x) untimed refl)
       where
         at : (a b : Bool) → absent x ≡ a
-            → told t k (held (length t) (free_found (if a (if b Unstated (Scheme times)) (Free (code_span x)))))
+            → told t k (held (length t) (Some (free_found (if a (if b Unstated (Scheme times)) (Free (code_span x))))))
             ≡ if (within (length t) x) (free_cell (if a (if b unstated (scheme (stands_for t m) (stands_for t d) (stands_for t v) (stands_for t h))) (free_text (stands_for t x)))) no_cell
         at false b q = value_told x (stands_for t x) false false refl refl
         at true true q = rw q
@@ -175,9 +176,9 @@ for_kind t l = refl
 
 -- the cell of a row, of the rows among which it stands
 row_told : (t k l : List ℕ) (rs : List Row) (i : ℕ) (f : CellField) → RowAt rs i (row_for t l) → told t k (row_found (length t) (row_in l) (some f)) ≡ if (in_range t l f) (cell_in rs i f k) no_cell
-row_told t k l rs i f here = ap (λ (b : Bool). told t k (if b (held (length t) (field_found (row_in l) (some f))) none_found)) (ap is_medication (kind_is l) ∙ is_medication_lem (kind_shown (get_or l 0 0))) ∙ at (is (kind_shown (get_or l 0 0)) M) refl
+row_told t k l rs i f here = ap (λ (b : Bool). told t k (if b (held (length t) (field_found (row_in l) (some f))) None)) (ap is_medication (kind_is l) ∙ is_medication_lem (kind_shown (get_or l 0 0))) ∙ at (is (kind_shown (get_or l 0 0)) M) refl
   where
-    at : (b : Bool) → is (kind_shown (get_or l 0 0)) M ≡ b → told t k (if b (held (length t) (field_found (row_in l) (some f))) none_found) ≡ if (in_range t l f) (cell_in rs i f k) no_cell
+    at : (b : Bool) → is (kind_shown (get_or l 0 0)) M ≡ b → told t k (if b (held (length t) (field_found (row_in l) (some f))) None) ≡ if (in_range t l f) (cell_in rs i f k) no_cell
     at true e =
         let q : kind_shown (get_or l 0 0) ≡ M = is_eq (kind_shown (get_or l 0 0)) M e in
         let shown-in : cell_in rs i f k ≡ cell_of (medication t l) f k = cell_row rs i (row_for t l) f k here (for_kind t l ∙ q) ∙ ap (λ (r : Row). cell_of r f k) (for_medication t l q) in
@@ -185,11 +186,6 @@ row_told t k l rs i f here = ap (λ (b : Bool). told t k (if b (held (length t) 
     at false e =
         let shown-in : cell_in rs i f k ≡ no_cell = no_other_row rs i (row_for t l) f k here (ap (λ (j : Kind). is j M) (for_kind t l) ∙ e) in
         rw shown-in (sym (if_same (in_range t l f) no_cell))
-
--- a test that does not fail holds
-pub not_no : (a : Bool) → not a ≡ false → a ≡ true
-not_no true e = refl
-not_no false e = sym e
 
 -- what it means that a row is there
 pub there : (rows : List ℕ) (count row : ℕ) → row_there rows count row ≡ true → (1 ≤ row) × (row ≤ count) × (row * 48 ≤ length rows)
@@ -202,13 +198,13 @@ found_told : (t k rows : List ℕ) (count row : ℕ) (o : Option CellField) → 
 unfolding found
 found_told t k rows count row none = at (row_there rows count row)
   where
-    at : (b : Bool) → told t k (if b (row_found (length t) (row_in (record_at rows (row - 1))) none) none_found) ≡ no_cell
-    at true = ap (told t k) (if_same (is_medication (row_in (record_at rows (row - 1))).kind) none_found)
+    at : (b : Bool) → told t k (if b (row_found (length t) (row_in (record_at rows (row - 1))) none) None) ≡ no_cell
+    at true = ap (told t k) (if_same (is_medication (row_in (record_at rows (row - 1))).kind) None)
     at false = refl
 found_told t k rows count row (some f) = at (row_there rows count row) refl
   where
     at : (b : Bool) → row_there rows count row ≡ b
-        → told t k (if b (row_found (length t) (row_in (record_at rows (row - 1))) (some f)) none_found) ≡ if (b && in_range t (record_at rows (row - 1)) f) (cell_in (rows_for t count rows) row f k) no_cell
+        → told t k (if b (row_found (length t) (row_in (record_at rows (row - 1))) (some f)) None) ≡ if (b && in_range t (record_at rows (row - 1)) f) (cell_in (rows_for t count rows) row f k) no_cell
     at false e = refl
     at true e =
         let h = there rows count row e in
@@ -218,25 +214,3 @@ found_told t k rows count row (some f) = at (row_there rows count row) refl
 pub cell_told_lem : (t k rows : List ℕ) (count row n i : ℕ) → told t k (found rows count (length t) row (field_of n i)) ≡ cell_at rows count t k row n i
 unfolding cell_at
 cell_told_lem t k rows count row n i = found_told t k rows count row (field_of n i)
-
--- ---- what the code finds, test by test
-
-module _ (rows : List ℕ) (count size row : ℕ) (o : Option CellField) where
-  -- there is no such row
-  pub not_there : row_there rows count row ≡ false → found rows count size row o ≡ none_found
-  unfolding found
-  not_there e = rw e
-
-  module _ (r : Taken.Row) (e : row_there rows count row ≡ true) (f : r ≡ row_in (record_at rows (row - 1))) where
-    -- the row is there
-    in_row : found rows count size row o ≡ row_found size r o
-    unfolding found
-    in_row = rw (e, f)
-
-    -- it is no medication
-    pub other_kind : is_medication r.kind ≡ false → found rows count size row o ≡ none_found
-    other_kind q = in_row ∙ rw q
-
-    -- it is one, and its cell is held against the text
-    pub found_held : (c : Found.Cell) (b : Bool) → is_medication r.kind ≡ true → c ≡ field_found r o → within size (paper_span c.own) ≡ b → found rows count size row o ≡ if b c none_found
-    found_held c b q x h = in_row ∙ ap (λ (z : Bool). if z (held size (field_found r o)) none_found) q ∙ ap (held size) (sym x) ∙ ap (λ (z : Bool). if z c none_found) h

@@ -15,7 +15,7 @@ use Rattle.paper.specs.Reading.{numbers}
 use Rattle.cell.specs.declared.answer.Source.{Source}
 use Rattle.cell.specs.declared.answer.Source.TheVariants.{Plan, Catalogue, Neither}
 use Rattle.cell.specs.Numbered.{row_for, cell_at}
-use Rattle.cell.specs.declared.answer.Answer.TheVariants.{NoCell}
+use Rattle.std.specs.Prelude.{Err}
 use Rattle.cell.specs.Answers.{Values, values_of, values_at}
 
 -- a span
@@ -69,7 +69,7 @@ module _ (k : List ℕ) where
   own_placed = (refl, refl, refl)
 
   -- refusal 1 at 0, 0
-  no_place : (values k 3 1 0 ≡ values_of NoCell) × (values k 2 9 0 ≡ values_of NoCell)
+  no_place : (values k 3 1 0 ≡ values_of (Err (record {}))) × (values k 2 9 0 ≡ values_of (Err (record {})))
   unfolding values_at cell_at row_for record_with spans_in fields_of
   no_place = (refl, refl)
 

@@ -1,7 +1,7 @@
 -- Answers: what is answered of a cell: document 01's number and values for each case, and the text as a part of its buffer. `values_of` says what an answer of
 -- the code tells, `values_at` what document 01 answers to a call; `slice_of` what a slice is, `text_in` which part of which buffer values tell.
 -- Assumes nothing.
-use Rattle.std.specs.Prelude.{Bool, true, false, ◌||◌, List, [], ℕ, ◌+◌, ◌-◌, length, take, drop}
+use Rattle.std.specs.Prelude.{Bool, true, false, ◌||◌, List, [], ℕ, ◌+◌, ◌-◌, length, take, drop, Result, Ok, Err}
 use Rattle.std.proofs.Math.Option.{Option, none, some}
 use Rattle.std.specs.Borrow.{Bor}
 use Rattle.paper.specs.Lists.{if, is_empty}
@@ -10,16 +10,20 @@ use Rattle.paper.specs.Cells.{CellField, name, form, morning, midday, evening, n
 use Rattle.plan.specs.Numbers.{record_at, absent}
 use Rattle.cell.specs.declared.answer.Source.{Source}
 use Rattle.cell.specs.declared.answer.Source.TheVariants.{Plan, Catalogue, Neither}
-use Rattle.cell.specs.declared.answer.Answer.{Answer}
-use Rattle.cell.specs.declared.answer.Answer.TheVariants.{Shown, NoCell}
+use Rattle.cell.specs.declared.answer.Shown.{Shown}
+use Rattle.cell.specs.declared.answer.NoCell.{NoCell}
 use Rattle.cell.specs.Numbered.{field_of, own_span, cell_at}
 
 -- ---- number and values of an answer
 
+-- what is answered: what the cell shows, or that there is none
+abbrev pub Answer : Type 0
+Answer = Result Shown NoCell
+
 -- the table of refusals: "for a cell, a field or row that does not exist, or a range outside its text" is 1 at 0, 0; a cell is 0, 0, 0
 abbrev pub numbers_of : Answer → Numbers
-numbers_of (Shown s) = numbers 0 0 0
-numbers_of NoCell = numbers 1 0 0
+numbers_of (Ok s) = numbers 0 0 0
+numbers_of (Err e) = numbers 1 0 0
 
 -- a source as a number
 abbrev pub source_number : Source → ℕ
@@ -44,8 +48,8 @@ shows_nothing x = record { refusal = x; source = Neither; at = 0; len = 0; more 
 
 -- the values of each case
 abbrev pub values_of : Answer → Values
-values_of (Shown s) = record { refusal = numbers_of (Shown s); source = s.source; at = s.at; len = s.len; more = s.more; omitted = s.omitted; zero = s.zero }
-values_of NoCell = shows_nothing (numbers_of NoCell)
+values_of (Ok s) = record { refusal = numbers_of (Ok s); source = s.source; at = s.at; len = s.len; more = s.more; omitted = s.omitted; zero = s.zero }
+values_of (Err e) = shows_nothing (numbers_of (Err e))
 
 -- the buffer of a source, of the plan's and the catalogue's; an empty cell counts as a part of the plan's
 abbrev pub buffer : {A : Type 0} → Source → A → A → A
@@ -60,8 +64,8 @@ text_of no_cell = []
 
 -- the cell of document 01 that an answer tells: its text is that part of its buffer
 abbrev pub cell_told : List ℕ → List ℕ → Answer → Cell
-cell_told t k (Shown s) = cell (take s.len (drop s.at (buffer s.source t k))) s.more s.omitted s.zero
-cell_told t k NoCell = no_cell
+cell_told t k (Ok s) = cell (take s.len (drop s.at (buffer s.source t k))) s.more s.omitted s.zero
+cell_told t k (Err e) = no_cell
 
 -- ---- what document 01 answers
 

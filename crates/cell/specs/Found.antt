@@ -1,7 +1,7 @@
--- Found: a cell as the code finds it in a row: refused or not, the range of the plan's own value, the limit, the mark that 0 is printed; and what it shows.
+-- Found: a cell as the code finds it in a row, or none: the range of the plan's own value, the limit, the mark that 0 is printed; and what it shows.
 -- A dose cell has limit 0. Serves this crate's contracts; proofs/Told.antt joins it to the cell of `Numbered`, proofs/Shows.antt to the values of `Answers`.
 -- Assumes nothing.
-use Rattle.std.specs.Prelude.{Bool, true, false, List, ◌≡◌, ℕ, ◌+◌, ◌-◌, ◌*◌, ◌≤◌, eqb, leb, length, drop, get_or}
+use Rattle.std.specs.Prelude.{Bool, true, false, List, ◌≡◌, ℕ, ◌+◌, ◌-◌, ◌*◌, ◌≤◌, eqb, leb, length, drop, get_or, Some, None, Option as Maybe}
 use Rattle.std.proofs.Math.Option.{Option, none, some}
 use Rattle.paper.specs.Lists.{if}
 use Rattle.paper.specs.Cells.{CellField, name, form, morning, midday, evening, night, free_dose, substance, strength, of_three, shown_of}
@@ -20,17 +20,13 @@ use Rattle.cell.specs.declared.answer.Source.TheVariants.{Plan, Catalogue, Neith
 use Rattle.cell.specs.declared.answer.Shown.{Shown}
 use Rattle.cell.specs.Numbered.{row_there}
 
--- the cell that is refused
-abbrev pub none_found : Cell
-none_found = record { refused = true; own = no_span; limit = 0; zero = false }
-
 -- a cell with a limit
 abbrev pub text_found : Span → ℕ → Cell
-text_found s n = record { refused = false; own = s; limit = n; zero = false }
+text_found s n = record { own = s; limit = n; zero = false }
 
 -- a dose cell
 abbrev pub dose_found : Span → Bool → Cell
-dose_found s z = record { refused = false; own = s; limit = 0; zero = z }
+dose_found s z = record { own = s; limit = 0; zero = z }
 
 -- the time of day of a field's number
 abbrev pub time_of : ℕ → Times → Span
@@ -49,25 +45,26 @@ free_found (Free s) = dose_found s false
 free_found Unstated = dose_found no_span false
 
 -- one of three: w and s of the i-th W are texts 6 + 2 i and 7 + 2 i of a row
-abbrev pub three_found : List Span → ℕ → ℕ → ℕ → Cell
-three_found texts j i n = if (of_three i) (text_found (get_or texts (j + 2 * i) no_span) n) none_found
+abbrev pub three_found : List Span → ℕ → ℕ → ℕ → Maybe Cell
+three_found texts j i n = if (of_three i) (Some (text_found (get_or texts (j + 2 * i) no_span) n)) None
 
 -- the cell of a medication's field
-abbrev pub field_found : Row → Option CellField → Cell
-field_found r none = none_found
-field_found r (some name) = text_found (get_or r.texts 0 no_span) 50
-field_found r (some form) = text_found (get_or r.texts 2 no_span) 7
+abbrev pub field_found : Row → Option CellField → Maybe Cell
+field_found r none = None
+field_found r (some name) = Some (text_found (get_or r.texts 0 no_span) 50)
+field_found r (some form) = Some (text_found (get_or r.texts 2 no_span) 7)
 field_found r (some (substance i)) = three_found r.texts 6 i 80
 field_found r (some (strength i)) = three_found r.texts 7 i 15
-field_found r (some morning) = time_found (time_of 5) r.dose
-field_found r (some midday) = time_found (time_of 6) r.dose
-field_found r (some evening) = time_found (time_of 7) r.dose
-field_found r (some night) = time_found (time_of 8) r.dose
-field_found r (some free_dose) = free_found r.dose
+field_found r (some morning) = Some (time_found (time_of 5) r.dose)
+field_found r (some midday) = Some (time_found (time_of 6) r.dose)
+field_found r (some evening) = Some (time_found (time_of 7) r.dose)
+field_found r (some night) = Some (time_found (time_of 8) r.dose)
+field_found r (some free_dose) = Some (free_found r.dose)
 
--- a cell whose value points outside a text of so many bytes is refused
-abbrev pub held : ℕ → Cell → Cell
-held size c = if (within size (paper_span c.own)) c none_found
+-- there is none whose value points outside a text of so many bytes
+abbrev pub held : ℕ → Maybe Cell → Maybe Cell
+held size None = None
+held size (Some c) = if (within size (paper_span c.own)) (Some c) None
 
 -- the row is a medication
 abbrev pub is_medication : Kind → Bool
@@ -78,12 +75,12 @@ is_medication Note = false
 is_medication Unknown = false
 
 -- the cell of a row
-abbrev pub row_found : ℕ → Row → Option CellField → Cell
-row_found size r f = if (is_medication r.kind) (held size (field_found r f)) none_found
+abbrev pub row_found : ℕ → Row → Option CellField → Maybe Cell
+row_found size r f = if (is_medication r.kind) (held size (field_found r f)) None
 
 -- the cell of the row of that number
-unfoldable pub found : List ℕ → ℕ → ℕ → ℕ → Option CellField → Cell
-found rows count size row f = if (row_there rows count row) (row_found size (row_in (record_at rows (row - 1))) f) none_found
+unfoldable pub found : List ℕ → ℕ → ℕ → ℕ → Option CellField → Maybe Cell
+found rows count size row f = if (row_there rows count row) (row_found size (row_in (record_at rows (row - 1))) f) None
 
 -- ---- what it shows
 

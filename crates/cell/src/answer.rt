@@ -3,7 +3,7 @@ ghost use Rattle.std.specs.Prelude.{◌≡◌};
 ghost use Rattle.cell.specs.Answers.{numbers_of, source_number};
 
 // Which buffer the text of a cell is a part of.
-#[derive(Clone, Copy)]
+#[derive(Clone, Copy, PartialEq, Eq)]
 pub enum Source {
     // The plan's text: the row has a value of its own.
     Plan,
@@ -13,9 +13,22 @@ pub enum Source {
     Neither,
 }
 
+impl Source {
+    // The number of a source: 1 the plan, 2 the catalogue, 0 neither.
+    pub fn number(self) -> u32
+        ensures { result ≡ source_number self }
+    {
+        match self {
+            Source::Plan => 1,
+            Source::Catalogue => 2,
+            Source::Neither => 0,
+        }
+    }
+}
+
 // What a cell shows: the buffer that its text is a part of, where the text begins there and how many bytes it has (0 and 0 with neither), whether "..."
 // follows, how many bytes of the whole text were left out, and whether 0 is printed.
-#[derive(Clone, Copy)]
+#[derive(Clone, Copy, PartialEq, Eq)]
 pub struct Shown {
     pub source: Source,
     pub at: usize,
@@ -25,33 +38,16 @@ pub struct Shown {
     pub zero: bool,
 }
 
-// What is answered.
-#[derive(Clone, Copy)]
-pub enum Answer {
-    // The cell.
-    Shown(Shown),
-    // There is no such cell: the row or the field does not exist, the row is no medication, the index is none of three, or the value asked for points outside
-    // the text.
-    NoCell,
-}
+// There is no such cell: the row or the field does not exist, the row is no medication, the index is none of three, or the value asked for points outside
+// the text.
+#[derive(Clone, Copy, PartialEq, Eq)]
+pub struct NoCell;
 
-// The number of a refusal, which is 1; 0 for a cell. Page and place are 0 either way.
-pub fn refusal_number(a: Answer) -> u32
-    ensures { result ≡ (numbers_of a).number }
-{
-    match a {
-        Answer::Shown(_) => 0,
-        Answer::NoCell => 1,
-    }
-}
-
-// The number of a source: 1 the plan, 2 the catalogue, 0 neither.
-pub fn source_number(s: Source) -> u32
-    ensures { result ≡ source_number s }
-{
-    match s {
-        Source::Plan => 1,
-        Source::Catalogue => 2,
-        Source::Neither => 0,
+impl NoCell {
+    // The number of the refusal. Its page and place are 0.
+    pub fn number(self) -> u32
+        ensures { result ≡ (numbers_of (Err self)).number }
+    {
+        1
     }
 }

@@ -9,14 +9,14 @@ ghost use Rattle.paper.specs.Cells.{shown_of};
 ghost use Rattle.plan.specs.Numbers.{paper_span, within};
 ghost use Rattle.cell.specs.Numbered.{field_of, row_there};
 ghost use Rattle.cell.specs.Answers.{values_of, values_at, slice_of, text_in};
-ghost use Rattle.cell.specs.Found.{none_found, text_found, dose_found, time_of, time_found, free_found, three_found, field_found, is_medication, found, Roomy, whole_shown, first_place, cut_shown, shown_found};
+ghost use Rattle.cell.specs.Found.{text_found, dose_found, time_of, time_found, free_found, three_found, field_found, is_medication, found, Roomy, whole_shown, first_place, cut_shown, shown_found};
 
-use crate::answer::{Answer, Shown, Source};
+use crate::answer::{NoCell, Shown, Source};
 use plan::{Dose, Kind, Plan, Row, Span, Times, row_at};
 use room::{lies_in, wide};
 
 // Which cell of a row is asked for: the number of a field, and for substance and strength which of three.
-#[derive(Clone, Copy)]
+#[derive(Clone, Copy, PartialEq, Eq)]
 pub struct Field {
     pub number: u32,
     pub which: usize,
@@ -43,11 +43,10 @@ impl Field {
     pub const FREE_DOSE: u32 = 9;
 }
 
-// A cell as it is found in a plan's numbers: whether it is refused, the range of the plan's own value, the limit, and whether 0 is printed. A cell without
-// a limit is never cut and takes nothing from the catalogue. A refused cell has an absent value and no limit.
-#[derive(Clone, Copy)]
+// A cell as it is found in a plan's numbers: the range of the plan's own value, the limit, and whether 0 is printed. A cell without a limit is never cut and
+// takes nothing from the catalogue.
+#[derive(Clone, Copy, PartialEq, Eq)]
 pub struct Cell {
-    pub refused: bool,
     pub own: Span,
     pub limit: usize,
     pub zero: bool,
@@ -70,27 +69,16 @@ impl Cell {
     pub const BACK: usize = 10;
 }
 
-// The cell that is refused.
-fn none() -> Cell
-    ensures { result ≡ none_found }
-{
-    let own = Span { at: 0, len: 0 };
-    Cell {
-        refused: true,
-        own: own,
-        limit: 0,
-        zero: false,
-    }
-}
+// The value that is not there.
+const ABSENT: Span = Span { at: 0, len: 0 };
 
 // A cell that shows a value or the catalogue's text, up to a limit.
 fn text_cell(own: Span, limit: usize) -> Cell
     ensures { result ≡ text_found own limit }
 {
     Cell {
-        refused: false,
-        own: own,
-        limit: limit,
+        own,
+        limit,
         zero: false,
     }
 }
@@ -100,10 +88,9 @@ fn dose_cell(own: Span, zero: bool) -> Cell
     ensures { result ≡ dose_found own zero }
 {
     Cell {
-        refused: false,
-        own: own,
+        own,
         limit: Cell::DOSE,
-        zero: zero,
+        zero,
     }
 }
 
@@ -111,30 +98,25 @@ fn dose_cell(own: Span, zero: bool) -> Cell
 fn time_of(x: Times, number: u32) -> Span
     ensures { result ≡ time_of number x }
 {
-    if number == Field::MORNING {
-        return x.morning;
+    match number {
+        Field::MORNING => x.morning,
+        Field::MIDDAY => x.midday,
+        Field::EVENING => x.evening,
+        _ => x.night,
     }
-    if number == Field::MIDDAY {
-        return x.midday;
-    }
-    if number == Field::EVENING {
-        return x.evening;
-    }
-    x.night
 }
 
 // The cell of a time of day. An absent time is empty, with the mark that 0 is printed: another time is there, or the dose would not be a scheme.
 fn time_cell(dose: Dose, number: u32) -> Cell
     ensures { result ≡ time_found (time_of number) dose }
 {
-    let untimed = Span { at: 0, len: 0 };
     match dose {
         Dose::Scheme(x) => {
             let s = time_of(x, number);
             dose_cell(s, s.len == 0)
         }
-        Dose::Free(_) => dose_cell(untimed, false),
-        Dose::Unstated => dose_cell(untimed, false),
+        Dose::Free(_) => dose_cell(ABSENT, false),
+        Dose::Unstated => dose_cell(ABSENT, false),
     }
 }
 
@@ -142,123 +124,90 @@ fn time_cell(dose: Dose, number: u32) -> Cell
 fn free_cell(dose: Dose) -> Cell
     ensures { result ≡ free_found dose }
 {
-    let absent = Span { at: 0, len: 0 };
     match dose {
-        Dose::Scheme(_) => dose_cell(absent, false),
         Dose::Free(s) => dose_cell(s, false),
-        Dose::Unstated => dose_cell(absent, false),
+        Dose::Unstated | Dose::Scheme(_) => dose_cell(ABSENT, false),
     }
 }
 
-// The cell of one of three, whose values are every second text of a row from `first` on.
-fn three_cell(texts: [Span; 14], first: usize, which: usize, limit: usize) -> Cell
+// The cell of one of three, whose values are every second text of a row from `first` on; there is none of any other.
+fn three_cell(texts: [Span; 14], first: usize, which: usize, limit: usize) -> Option<Cell>
     requires { first ≤ 7 }
     ensures { result ≡ three_found texts first which limit }
 {
-    if which < 1 {
-        return none();
+    match which {
+        1..=3 => Some(text_cell(texts[first + 2 * which], limit)),
+        _ => None,
     }
-    if which > 3 {
-        return none();
-    }
-    text_cell(texts[first + 2 * which], limit)
 }
 
 // The cell of a medication's field. The texts of a row are a, f, fd and so on, w and s of its first W from 8 on; f, the form's code, is no text.
-fn field_cell(row: Row, f: Field) -> Cell
+fn field_cell(row: Row, f: Field) -> Option<Cell>
     ensures { result ≡ field_found row (field_of f.number f.which) }
 {
-    let number = f.number;
-    let texts = row.texts;
-    let dose = row.dose;
-    if number == Field::NAME {
-        return text_cell(texts[0], Cell::NAME);
+    match f.number {
+        Field::NAME => Some(text_cell(row.texts[0], Cell::NAME)),
+        Field::SUBSTANCE => three_cell(row.texts, 6, f.which, Cell::SUBSTANCE),
+        Field::STRENGTH => three_cell(row.texts, 7, f.which, Cell::STRENGTH),
+        Field::FORM => Some(text_cell(row.texts[2], Cell::FORM)),
+        Field::MORNING => Some(time_cell(row.dose, Field::MORNING)),
+        Field::MIDDAY => Some(time_cell(row.dose, Field::MIDDAY)),
+        Field::EVENING => Some(time_cell(row.dose, Field::EVENING)),
+        Field::NIGHT => Some(time_cell(row.dose, Field::NIGHT)),
+        Field::FREE_DOSE => Some(free_cell(row.dose)),
+        _ => None,
     }
-    if number == Field::SUBSTANCE {
-        return three_cell(texts, 6, f.which, Cell::SUBSTANCE);
-    }
-    if number == Field::STRENGTH {
-        return three_cell(texts, 7, f.which, Cell::STRENGTH);
-    }
-    if number == Field::FORM {
-        return text_cell(texts[2], Cell::FORM);
-    }
-    if number == Field::MORNING {
-        return time_cell(dose, number);
-    }
-    if number == Field::MIDDAY {
-        return time_cell(dose, number);
-    }
-    if number == Field::EVENING {
-        return time_cell(dose, number);
-    }
-    if number == Field::NIGHT {
-        return time_cell(dose, number);
-    }
-    if number == Field::FREE_DOSE {
-        return free_cell(dose);
-    }
-    none()
 }
 
 // Whether a row is there: its number, counted from 1, is not above the row count, and its record lies in the lent rows.
 fn is_there(rows: &[u32], count: usize, row: usize) -> bool
     ensures { result ≡ row_there rows.now count row }
 {
-    if row < 1 {
-        return false;
-    }
-    if row > count {
-        return false;
-    }
-    row <= rows.len() / Plan::STRIDE
+    1 <= row && row <= count && row <= rows.len() / Plan::STRIDE
 }
 
 // Whether a row of that kind is a medication; no other row has cells.
 fn is_medication(kind: Kind) -> bool
     ensures { result ≡ is_medication kind }
 {
-    match kind {
-        Kind::Heading => false,
-        Kind::Medication => true,
-        Kind::Recipe => false,
-        Kind::Note => false,
-        Kind::Unknown => false,
-    }
+    matches!(kind, Kind::Medication)
 }
 
 // Whether a value is absent or lies in a text of so many bytes.
 fn is_within(s: Span, size: usize) -> bool
     ensures { result ≡ within size (paper_span s) }
 {
-    if s.len == 0 {
-        return true;
-    }
-    lies_in(size, wide(s.at), wide(s.len))
+    s.len == 0 || lies_in(size, wide(s.at), wide(s.len))
 }
 
 // The cell of a row's field, where the text has so many bytes.
-fn find(rows: &[u32], count: usize, size: usize, row: usize, field: u32, which: usize) -> Cell
+#[tactic(auto, unfolding(crate::specs::Found::found))]
+fn find(
+    rows: &[u32],
+    count: usize,
+    size: usize,
+    row: usize,
+    field: u32,
+    which: usize,
+) -> Option<Cell>
     ensures { result ≡ found rows.now count size row (field_of field which) }
 {
     if !is_there(rows, count, row) {
-        return none();
+        return None;
     }
     let r = row_at(rows, row - 1);
-    let kind = r.kind;
-    if !is_medication(kind) {
-        return none();
+    if !is_medication(r.kind) {
+        return None;
     }
     let f = Field {
         number: field,
-        which: which,
+        which,
     };
-    let c = field_cell(r, f);
-    let own = c.own;
-    if !is_within(own, size) {
-        return none();
+    let c = field_cell(r, f)?;
+    if !is_within(c.own, size) {
+        return None;
     }
-    c
+    Some(c)
 }
 
 // What a cell shows that shows a text whole.
@@ -266,12 +215,12 @@ fn whole(source: Source, at: usize, len: usize, zero: bool) -> Shown
     ensures { result ≡ whole_shown source «at» len zero }
 {
     Shown {
-        source: source,
-        at: at,
-        len: len,
+        source,
+        at,
+        len,
         more: false,
         omitted: 0,
-        zero: zero,
+        zero,
     }
 }
 
@@ -292,9 +241,7 @@ fn shown_of(buffer: &[u8], at: usize, limit: usize) -> usize
 {
     let most = limit - Cell::DOTS;
     let first = first_place(most);
-    let mut p = most;
-    while p > first {
-        p -= 1;
+    for p in (first..most).rev() {
         if buffer[at + p] == b' ' {
             return p;
         }
@@ -312,8 +259,8 @@ fn cut(source: Source, buffer: &[u8], at: usize, len: usize, limit: usize) -> Sh
     }
     let shown = shown_of(buffer, at, limit);
     Shown {
-        source: source,
-        at: at,
+        source,
+        at,
         len: shown,
         more: true,
         omitted: len - shown,
@@ -326,20 +273,19 @@ fn shown<'a>(c: Cell, text: &'a [u8], catalogue: &'a [u8]) -> Shown
     requires { (Roomy c) × (within (length text.now) (paper_span c.own) ≡ true) }
     ensures { result ≡ shown_found text.now catalogue.now c }
 {
-    let limit = c.limit;
     let at = wide(c.own.at);
     let len = wide(c.own.len);
-    if limit == Cell::DOSE {
+    if c.limit == Cell::DOSE {
         if len == 0 {
             return whole(Source::Neither, 0, 0, c.zero);
         }
         return whole(Source::Plan, at, len, c.zero);
     }
     if len > 0 {
-        return cut(Source::Plan, text, at, len, limit);
+        return cut(Source::Plan, text, at, len, c.limit);
     }
     if catalogue.len() > 0 {
-        return cut(Source::Catalogue, catalogue, 0, catalogue.len(), limit);
+        return cut(Source::Catalogue, catalogue, 0, catalogue.len(), c.limit);
     }
     whole(Source::Neither, 0, 0, false)
 }
@@ -353,15 +299,13 @@ pub fn cell_answer<'a>(
     row: usize,
     field: u32,
     which: usize,
-) -> Answer
+) -> Result<Shown, NoCell>
     ensures { values_of result ≡ values_at rows.now count text.now catalogue.now row field which }
 {
-    let c = find(rows, count, text.len(), row, field, which);
-    if c.refused {
-        return Answer::NoCell;
+    match find(rows, count, text.len(), row, field, which) {
+        Some(c) => Ok(shown(c, text, catalogue)),
+        None => Err(NoCell),
     }
-    let s = shown(c, text, catalogue);
-    Answer::Shown(s)
 }
 
 // The text that a cell shows: the part of the plan's text or of the catalogue that `cell_answer` tells. With neither it is empty, as it is where the cell is
@@ -377,18 +321,12 @@ pub fn cell_text<'a>(
 ) -> &'a [u8]
     ensures { slice_of result ≡ text_in text.entry catalogue.entry (values_at rows.now count text.now catalogue.now row field which) }
 {
-    let a = cell_answer(rows, count, text, catalogue, row, field, which);
-    match a {
-        Answer::Shown(s) => {
-            let source = s.source;
-            let at = s.at;
-            let len = s.len;
-            match source {
-                Source::Plan => &text[at..at + len],
-                Source::Catalogue => &catalogue[at..at + len],
-                Source::Neither => &text[..0],
-            }
-        }
-        Answer::NoCell => &text[..0],
+    match cell_answer(rows, count, text, catalogue, row, field, which) {
+        Ok(s) => match s.source {
+            Source::Plan => &text[s.at..s.at + s.len],
+            Source::Catalogue => &catalogue[s.at..s.at + s.len],
+            Source::Neither => &text[..0],
+        },
+        Err(NoCell) => &text[..0],
     }
 }

@@ -1,5 +1,6 @@
 -- KeepLaws: which pages are here, what stands at a number's place, and what a page without faults gives.
 -- Assumes nothing.
+use Rattle.std.specs.Prelude.{Option, Some, None, is_some, Ok, Err}
 use mathlib.Core.Path.{◌≡◌, refl, ap, sym, ◌∙◌, subst}
 use mathlib.Core.Bool.{Bool, true, false, not, ◌&&◌}
 use mathlib.Core.List.{List}
@@ -19,23 +20,24 @@ use Rattle.paper.proofs.PageNumbers.{numbered}
 use Rattle.room.specs.Laid.{laid}
 use Rattle.markup.specs.Walk.{tags_at}
 use Rattle.sheet.specs.Content.{content_of, head_from}
-use Rattle.sheet.specs.Judged.{verdict_of}
-use Rattle.sheet.specs.declared.judge.Verdict.TheVariants.{Refused}
+use Rattle.paper.specs.Causes.{cause_number}
+use Rattle.paper.specs.declared.Cause.{Cause}
+use Rattle.paper.specs.declared.Cause.TheVariants.{Size, Byte, Malformed, OutOfPlace, Edition, Value, Incomplete}
+use Rattle.paper.proofs.Judged.{size_place}
+use Rattle.sheet.specs.declared.state.Refusal as Fault
 use Rattle.tape.specs.Making.{IsSheet}
 use Rattle.tape.proofs.TapeLaws.{sheet_by_lem}
 use Rattle.reader.specs.Joining.{PageFits}
 use Rattle.reader.specs.Answers as Reader
-use Rattle.reader.specs.declared.answer.Answer as Read
-use Rattle.reader.specs.declared.answer.Answer.TheVariants.{NoRoom, OtherHead, NumberTwice}
-use Rattle.reader.proofs.ReadingLaws.{page_refused}
+use Rattle.reader.specs.declared.answer.Refusal.{Refusal}
+use Rattle.reader.specs.declared.answer.Refusal.TheVariants.{NoRoom, OtherHead, NumberTwice}
 use Rattle.reader.proofs.TakenLaws.{page_good}
 use Rattle.collector.specs.Keeping.{start_of, len_of, here, page_at, kept, agrees_with, agrees_first, first_with, Answered, unchanged, kept_with, taken_in, added_as, added_to, added_call}
-use Rattle.collector.specs.Answers.{page_of, Tells}
+use Rattle.collector.specs.Answers.{Answer, page_of, Tells}
 use Rattle.collector.specs.Promise.{Promised}
 use Rattle.collector.specs.declared.store.Collector.{Collector}
-use Rattle.collector.specs.declared.adding.Answer.{Answer}
-use Rattle.collector.specs.declared.adding.Answer.TheVariants as Told
-use Rattle.collector.specs.declared.store.PageAt.TheVariants.{Here, Missing}
+use Rattle.collector.specs.declared.adding.Kept as Told
+use Rattle.collector.specs.declared.store.Slot.{Slot}
 
 -- ---- which pages are here
 
@@ -70,26 +72,36 @@ pub record Place (lens : List ℕ) (n s l : ℕ) : Type 0 where
   pub len_is : l ≡ len_of lens n
   pub inside : s + l ≤ 12600
 
-pub place : (lens : List ℕ) (n s l : ℕ) → Here s l ≡ page_at lens n → Place lens n s l
+pub place : (lens : List ℕ) (n : ℕ) (x : Slot) → Some x ≡ page_at lens n → Place lens n x.start x.len
 unfolding page_at
-place lens n s l e = at (here lens n) refl e
+place lens n x e = at (here lens n) refl e
   where
-    at : (b : Bool) → here lens n ≡ b → Here s l ≡ if b (Here (start_of n) (len_of lens n)) (Missing n) → Place lens n s l
+    at : (b : Bool) → here lens n ≡ b → ◌≡◌ {A = Option Slot} (Some x) (if b (Some (record { start = start_of n; len = len_of lens n })) None) → Place lens n x.start x.len
     at true h e =
-        let p : s ≡ start_of n = cc in
-        let q : l ≡ len_of lens n = cc in
+        let q : ◌≡◌ {A = Slot} x (record { start = start_of n; len = len_of lens n }) = cc in
+        let p : x.start ≡ start_of n = ap (λ (y : Slot). y.start) q in
+        let l : x.len ≡ len_of lens n = ap (λ (y : Slot). y.len) q in
         let K = is_kept lens n h in
-        record { is_here = h; start_is = p; len_is = q; inside = omega (arith, p, q, K.least, K.most, K.short) }
-    at false h e = let y : ◌≡◌ {A = ℕ} 0 1 = cc in unequal y
+        record { is_here = h; start_is = p; len_is = l; inside = omega (arith, p, l, K.least, K.most, K.short) }
+    at false h e = cc
 
--- one that is told to be missing is not
-pub told_missing : (lens : List ℕ) (n m : ℕ) → Missing m ≡ page_at lens n → here lens n ≡ false
+-- one that none is told of is not
+pub told_missing : (lens : List ℕ) (n : ℕ) → None ≡ page_at lens n → here lens n ≡ false
 unfolding page_at
-told_missing lens n m e = at (here lens n) e
+told_missing lens n e = at (here lens n) e
   where
-    at : (b : Bool) → Missing m ≡ if b (Here (start_of n) (len_of lens n)) (Missing n) → b ≡ false
-    at true e = let y : ◌≡◌ {A = ℕ} 0 1 = cc in unequal y
+    at : (b : Bool) → ◌≡◌ {A = Option Slot} None (if b (Some (record { start = start_of n; len = len_of lens n })) None) → b ≡ false
+    at true e = cc
     at false e = refl
+
+-- whether a place is told says whether it is here
+pub told_here : (lens : List ℕ) (n : ℕ) (r : Option Slot) → r ≡ page_at lens n → is_some r ≡ here lens n
+unfolding page_at
+told_here lens n r e = ap is_some e ∙ at (here lens n)
+  where
+    at : (b : Bool) → is_some {T = Slot} (if b (Some (record { start = start_of n; len = len_of lens n })) None) ≡ b
+    at true = refl
+    at false = refl
 
 -- a part by its two ends is a part by its start and length
 pub slice_part : (a n : ℕ) (l : List ℕ) → a ≤ length l → slice a (a + n) l ≡ take n (drop a l)
@@ -108,6 +120,11 @@ same_kept pages lens w n s l r long P e =
     let k : take l (drop s pages) ≡ kept pages lens n = rw (P.start_is, P.len_is) in
     same_comm w (kept pages lens n) ∙ sym (e ∙ ap (λ (v : List ℕ). same v w) (slice_part s l pages h ∙ k))
 
+-- the same of a place that is told
+pub kept_same : (c : Collector) (w : List ℕ) (s : Sheet) (n : ℕ) (x : Slot) (r : Bool) → n ≡ s.no → length c.pages ≡ 12600 → Some x ≡ page_at c.lens n → r ≡ same (slice x.start (x.start + x.len) c.pages) w
+    → (here c.lens s.no ≡ true) × (same w (kept c.pages c.lens s.no) ≡ r)
+kept_same c w s n x r q long e f = rw (← q) ((place c.lens n x e).is_here, same_kept c.pages c.lens w n x.start x.len r long (place c.lens n x e) f)
+
 -- ---- a page without faults
 
 -- what it says, that it can be laid out, and that its number is a page's
@@ -124,12 +141,8 @@ says w q =
 -- ---- the first page
 
 -- a first page with faults: no page agrees with it
-pub refused_first : (s : Sheet) (v : List ℕ) (n i : ℕ) → Refused n i ≡ verdict_of (judge v) → false ≡ agrees_with s (judge v)
-refused_first s v n i e = at (judge v) e
-  where
-    at : (j : Judged) → Refused n i ≡ verdict_of j → false ≡ agrees_with s j
-    at (refused m k) e = refl
-    at (sheet t) e = let y : ◌≡◌ {A = ℕ} 0 1 = cc in unequal y
+pub refused_first : (s : Sheet) (v : List ℕ) (n i : ℕ) → judge v ≡ refused n i → false ≡ agrees_with s (judge v)
+refused_first s v n i e = rw e refl
 
 -- any other is compared with
 pub by_heads : (w v : List ℕ) (r : Bool) → Says v → r ≡ (eqb (content_of (tags_at w 0)).of (content_of (tags_at v 0)).of && same_head (head_from (tags_at w 0)) (head_from (tags_at v 0))) → r ≡ agrees_with (content_of (tags_at w 0)) (judge v)
@@ -153,20 +166,20 @@ pub promised_same : (x : Answered) (a b : Answer) (c d : Collector) → a ≡ b 
 promised_same x a b c d e f p = rw (e, f) p
 
 module _ (c : Collector) (w : List ℕ) (s : Sheet) where
-  pub takes_other : agrees_first c.pages c.lens c.first s ≡ false → Promised (taken_in c w s) (Told.Refused (OtherHead 1)) c
+  pub takes_other : agrees_first c.pages c.lens c.first s ≡ false → Promised (taken_in c w s) (Err (OtherHead 1)) c
   unfolding taken_in
   takes_other e = rw e (record { answer_is = (OtherHead 1, refl, refl); collector_is = refl })
 
   module _ (alike : agrees_first c.pages c.lens c.first s ≡ true) where
-    pub takes_same : here c.lens s.no ≡ true → same w (kept c.pages c.lens s.no) ≡ true → Promised (taken_in c w s) Told.AlreadyHere c
+    pub takes_same : here c.lens s.no ≡ true → same w (kept c.pages c.lens s.no) ≡ true → Promised (taken_in c w s) (Ok Told.TheVariants.AlreadyHere) c
     unfolding taken_in
     takes_same h e = rw (alike, h, e) (record { answer_is = refl; collector_is = refl })
 
-    pub takes_second : here c.lens s.no ≡ true → same w (kept c.pages c.lens s.no) ≡ false → Promised (taken_in c w s) (Told.Refused (NumberTwice 1)) c
+    pub takes_second : here c.lens s.no ≡ true → same w (kept c.pages c.lens s.no) ≡ false → Promised (taken_in c w s) (Err (NumberTwice 1)) c
     unfolding taken_in
     takes_second h e = rw (alike, h, e) (record { answer_is = (NumberTwice 1, refl, refl); collector_is = refl })
 
-    pub takes_new : here c.lens s.no ≡ false → (after : Collector) → after ≡ kept_with c w s → Promised (taken_in c w s) Told.Added after
+    pub takes_new : here c.lens s.no ≡ false → (after : Collector) → after ≡ kept_with c w s → Promised (taken_in c w s) (Ok Told.TheVariants.Added) after
     unfolding taken_in
     takes_new h after e = rw (alike, h) (record { answer_is = refl; collector_is = e })
 
@@ -175,20 +188,27 @@ pub keeps : (c : Collector) (w : List ℕ) (s : Sheet) (n of first : ℕ) (pages
     → ◌≡◌ {A = Collector} (record { pages = pages; lens = set c.lens (n - 1) (length w); z = of; first = first }) (kept_with c w s)
 keeps c w s n of first pages p q f e = rw (e, f, q, p)
 
--- a page that judging refuses
-pub adds_refused : (c : Collector) (w : List ℕ) (n i : ℕ) (a : Read.Answer) → Refused n i ≡ verdict_of (judge w) → Reader.numbers_of a ≡ numbers n 1 i → Promised (added_to c w) (Told.Refused a) c
-unfolding added_to
-adds_refused c w n i a e f = at (judge w) e
-  where
-    one : page_of n ≡ 1
-    one = rw (ne_eqb n 1 (omega (arith, (page_refused w n i e).least)))
+-- no cause of a page's refusal is 1
+not_one : (x : Cause) → cause_number x ≡ 1 → ⊥
+not_one Size e = absurd (omega (arith, e))
+not_one Byte e = absurd (omega (arith, e))
+not_one Malformed e = absurd (omega (arith, e))
+not_one OutOfPlace e = absurd (omega (arith, e))
+not_one Edition e = absurd (omega (arith, e))
+not_one Value e = absurd (omega (arith, e))
+not_one Incomplete e = absurd (omega (arith, e))
 
-    at : (j : Judged) → Refused n i ≡ verdict_of j → Promised (added_as c w j) (Told.Refused a) c
-    at (refused m k) e =
-        let x : n ≡ m = cc in
-        let y : i ≡ k = cc in
-        rw (← x, ← y) (record { answer_is = (a, refl, rw one f); collector_is = refl })
-    at (sheet t) e = let y : ◌≡◌ {A = ℕ} 0 1 = cc in unequal y
+-- a page that judging refuses
+pub adds_refused : (c : Collector) (w : List ℕ) (f : Fault.Refusal) (x : Refusal) → judge w ≡ refused (cause_number f.cause) f.place → Reader.numbers_of x ≡ numbers (cause_number f.cause) 1 f.place → Promised (added_to c w) (Err x) c
+unfolding added_to
+adds_refused c w f x e g = rw e (record { answer_is = (x, refl, rw one g); collector_is = refl })
+  where
+    one : page_of (cause_number f.cause) ≡ 1
+    one = rw (ne_eqb (cause_number f.cause) 1 (not_one f.cause))
+
+-- one of its size has no place
+pub size_placeless : (w : List ℕ) (f : Fault.Refusal) → judge w ≡ refused (cause_number f.cause) f.place → cause_number f.cause ≡ 2 → f.place ≡ 0
+size_placeless w f e = size_place w (cause_number f.cause) f.place e
 
 -- any other is taken in
 pub adds_taken : (c : Collector) (w : List ℕ) → Says w → taken_in c w (content_of (tags_at w 0)) ≡ added_to c w
@@ -196,7 +216,7 @@ unfolding added_to
 adds_taken c w S = rw S.judged
 
 -- a page that does not lie in the buffer
-pub outside : (c : Collector) (b : List ℕ) (start len : ℕ) → leb (start + len) (length b) ≡ false → Promised (added_call c b start len) (Told.Refused NoRoom) c
+pub outside : (c : Collector) (b : List ℕ) (start len : ℕ) → leb (start + len) (length b) ≡ false → Promised (added_call c b start len) (Err NoRoom) c
 unfolding added_call
 outside c b start len e = rw e (record { answer_is = (NoRoom, refl, refl); collector_is = refl })
 
@@ -233,11 +253,11 @@ call_stays c b start len = at (leb (start + len) (length b))
     at false h = refl
 
 -- so it is of any result that meets the promise
-stays : (c : Collector) (x : Answered) → Stays c x → (a : Answer) (after : Collector) → Promised x a after → (a ≡ Told.Added → ⊥) → after ≡ c
+stays : (c : Collector) (x : Answered) → Stays c x → (a : Answer) (after : Collector) → Promised x a after → (a ≡ Ok Told.TheVariants.Added → ⊥) → after ≡ c
 stays c x S a after P h = P.collector_is ∙ S (λ e. h (subst (λ (y : Added). Tells y a) e P.answer_is))
 
-pub add_stays : (c : Collector) (b : List ℕ) (start len : ℕ) (a : Answer) (after : Collector) → Promised (added_call c b start len) a after → (a ≡ Told.Added → ⊥) → after ≡ c
+pub add_stays : (c : Collector) (b : List ℕ) (start len : ℕ) (a : Answer) (after : Collector) → Promised (added_call c b start len) a after → (a ≡ Ok Told.TheVariants.Added → ⊥) → after ≡ c
 add_stays c b start len = stays c (added_call c b start len) (call_stays c b start len)
 
-pub add_bytes_stays : (c : Collector) (w : List ℕ) (a : Answer) (after : Collector) → Promised (added_to c w) a after → (a ≡ Told.Added → ⊥) → after ≡ c
+pub add_bytes_stays : (c : Collector) (w : List ℕ) (a : Answer) (after : Collector) → Promised (added_to c w) a after → (a ≡ Ok Told.TheVariants.Added → ⊥) → after ≡ c
 add_bytes_stays c w = stays c (added_to c w) (bytes_stay c w)

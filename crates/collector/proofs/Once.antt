@@ -1,31 +1,31 @@
 -- Once: what each function of a collector promises leaves no second answer, no second collector and no second final state of the rooms.
 -- Assumes nothing.
+use Rattle.std.specs.Prelude.{Option, Err}
 use mathlib.Core.Path.{◌≡◌, ap, sym, ◌∙◌}
 use mathlib.Core.List.{List}
 use Prim.Native.Nat.{ℕ}
 use lib.ListN.{length}
 use Rattle.paper.specs.Collecting as Paper
 use Rattle.paper.specs.Collecting.{mask_of}
-use Rattle.reader.specs.Pages.{first_of}
+use Rattle.reader.specs.Pages.{first_in}
 use Rattle.reader.specs.Promise as Reads
-use Rattle.reader.specs.declared.reading.Reading.{Reading}
-use Rattle.reader.specs.declared.answer.Answer as Read
+use Rattle.std.specs.Prelude.{Result}
+use Rattle.plan.specs.declared.Plan.{Plan}
+use Rattle.reader.specs.declared.answer.Refusal.{Refusal}
 use Rattle.reader.proofs.AnswerLaws.{numbers_once}
 use Rattle.reader.proofs.Unique as Unique
 use Rattle.reader.proofs.Unique.{Same}
-use Rattle.collector.specs.Answers.{numbers_of, Tells}
+use Rattle.collector.specs.Answers.{Answer, numbers_of, Tells}
 use Rattle.collector.specs.Keeping.{empty_collector, Answered, added_to, added_call, missing, collected}
 use Rattle.collector.specs.Promise.{Promised}
 use Rattle.collector.specs.declared.store.Collector.{Collector}
 use Rattle.collector.specs.declared.adding.Adding.{Adding}
-use Rattle.collector.specs.declared.adding.Answer.{Answer}
-use Rattle.collector.specs.declared.adding.Answer.TheVariants.{Refused}
 
 -- at most one answer tells what document 01 answers
 pub told_once : (p : Paper.Added) (a b : Answer) → Tells p a → Tells p b → a ≡ b
 told_once Paper.added a b e f = e ∙ sym f
 told_once Paper.already_here a b e f = e ∙ sym f
-told_once (Paper.refused_with n i) a b (x, e, p) (y, f, q) = e ∙ (ap (λ (r : Read.Answer). Refused r) (numbers_once x y (sym (ap numbers_of e) ∙ (p ∙ (sym q ∙ ap numbers_of f)))) ∙ sym f)
+told_once (Paper.refused_with n i) a b (x, e, p) (y, f, q) = e ∙ (ap (λ (r : Refusal). Err r) (numbers_once x y (sym (ap numbers_of e) ∙ (p ∙ (sym q ∙ ap numbers_of f)))) ∙ sym f)
 
 -- so one answer and one collector are left
 once : (x : Answered) (a b : Answer) (c d : Collector) → Promised x a c → Promised x b d → (a ≡ b) × (c ≡ d)
@@ -65,10 +65,10 @@ pub missing_count_once : (c : Collector) (r₁ r₂ : ℕ) → r₁ ≡ length (
 missing_count_once c r₁ r₂ p q = p ∙ sym q
 
 -- `lowest_missing`
-pub lowest_missing_once : (c : Collector) (r₁ r₂ : ℕ) → r₁ ≡ first_of (missing c) → r₂ ≡ first_of (missing c) → r₁ ≡ r₂
+pub lowest_missing_once : (c : Collector) (r₁ r₂ : Option ℕ) → r₁ ≡ first_in (missing c) → r₂ ≡ first_in (missing c) → r₁ ≡ r₂
 lowest_missing_once c r₁ r₂ p q = p ∙ sym q
 
 -- `read`
-pub read_once : (c : Collector) (rows text : List ℕ) (r₁ r₂ : Reading) (rows₁ rows₂ text₁ text₂ : List ℕ)
+pub read_once : (c : Collector) (rows text : List ℕ) (r₁ r₂ : Result Plan Refusal) (rows₁ rows₂ text₁ text₂ : List ℕ)
     → Reads.Promised (collected rows text c) rows text r₁ rows₁ text₁ → Reads.Promised (collected rows text c) rows text r₂ rows₂ text₂ → Same r₁ r₂ rows₁ rows₂ text₁ text₂
 read_once c rows text r₁ r₂ rows₁ rows₂ text₁ text₂ p q = Unique.once (collected rows text c) rows text r₁ r₂ rows₁ rows₂ text₁ text₂ p q

@@ -17,7 +17,9 @@ use Rattle.paper.specs.Reading as Paper
 use Rattle.plan.specs.Numbers.{rows_lent}
 use Rattle.reader.specs.Pages.{picked, first_of}
 use Rattle.reader.specs.Promise.{Promised, answered}
-use Rattle.reader.specs.declared.reading.Reading.{Reading}
+use Rattle.std.specs.Prelude.{Result}
+use Rattle.plan.specs.declared.Plan.{Plan}
+use Rattle.reader.specs.declared.answer.Refusal.{Refusal}
 use Rattle.reader.proofs.Digits.{none_picked}
 use Rattle.collector.specs.Keeping.{start_of, len_of, here, kept, count_of, missing, in_order, read_of, collected}
 use Rattle.collector.specs.declared.store.Collector.{Collector}
@@ -150,5 +152,5 @@ module _ (rows text : List ℕ) (c : Collector) where
         rw (ss, ns, none_missing c starts sizes k H h, room) (called true c.pages c.lens (count_of c.z) refl (count_nine c.z) long all)
 
 -- what is promised for an answer is promised for the same answer
-pub promised_as : (A B : Paper.Answer) → A ≡ B → (rows text : List ℕ) (r : Reading) (rows' text' : List ℕ) → Promised A rows text r rows' text' → Promised B rows text r rows' text'
+pub promised_as : (A B : Paper.Answer) → A ≡ B → (rows text : List ℕ) (r : Result Plan Refusal) (rows' text' : List ℕ) → Promised A rows text r rows' text' → Promised B rows text r rows' text'
 promised_as A B e rows text r rows' text' p = subst (λ (X : Paper.Answer). Promised X rows text r rows' text') e p

@@ -26,16 +26,15 @@ use Rattle.paper.proofs.Collected.{keep, Way, way, broken, stranger, here, secon
 use Rattle.room.specs.Laid.{laid}
 use Rattle.room.proofs.LaidLaws.{laid_long, laid_there, laid_before, laid_behind}
 use Rattle.plan.specs.Numbers.{rows_lent}
-use Rattle.reader.specs.Pages.{first_of}
+use Rattle.reader.specs.Pages.{first_of, first_in as lowest_in}
 use Rattle.reader.proofs.Digits.{same_picked}
 use Rattle.reader.proofs.PageLaws.{without_picked}
 use Rattle.collector.specs.Keeping as Code
 use Rattle.collector.specs.Keeping.{start_of, len_of, kept, agrees_first, first_with, Answered, kept_with, taken_in, added_to, added_call, count_of, missing, in_order, pages_of, read_of, collected}
-use Rattle.collector.specs.Answers.{Tells}
+use Rattle.collector.specs.Answers.{Answer, Tells}
 use Rattle.collector.specs.Promise.{Promised}
 use Rattle.collector.specs.Shows.{Shows, count_in, first_in, Leads, added_all}
 use Rattle.collector.specs.declared.store.Collector.{Collector}
-use Rattle.collector.specs.declared.adding.Answer.{Answer}
 use Rattle.collector.proofs.KeepLaws.{Kept, is_kept, kept_here, here_by, slice_part}
 use Rattle.collector.proofs.ByNumber.{order_same, all_there, in_order_lem}
 
@@ -255,8 +254,8 @@ module _ (c : Collector) (k : Paper.Collector) (R : Reached k) (S : Shows c k) w
   shows_count = ap length (missing_are c k R S)
 
   -- and the lowest of them
-  pub shows_lowest : first_of (missing c) ≡ first_of (missing_numbers k)
-  shows_lowest = ap first_of (missing_are c k R S)
+  pub shows_lowest : lowest_in (missing c) ≡ lowest_in (missing_numbers k)
+  shows_lowest = ap lowest_in (missing_are c k R S)
 
 -- ---- reading
 

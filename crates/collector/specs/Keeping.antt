@@ -1,7 +1,7 @@
 -- Keeping: what is asked of a collector as the code holds it, whatever numbers stand in its fields: which pages are here, a page added, the missing numbers,
 -- the pages read. Each definition is total; specs/Shows.antt says when such a value is a collector of document 01.
 -- Assumes nothing.
-use Rattle.std.specs.Prelude.{Bool, true, false, not, ◌&&◌, List, [], ◌∷◌, ℕ, zero, suc, ◌+◌, ◌-◌, ◌*◌, eqb, leb, length, take, drop, get_or, set, replicate}
+use Rattle.std.specs.Prelude.{Bool, true, false, not, ◌&&◌, List, [], ◌∷◌, ℕ, zero, suc, ◌+◌, ◌-◌, ◌*◌, eqb, leb, length, take, drop, get_or, set, replicate, Option, Some, None}
 use Rattle.paper.specs.Lists.{if, same}
 use Rattle.paper.specs.Plan.{same_head}
 use Rattle.paper.specs.Judging.{Sheet, Judged, refused, sheet, judge}
@@ -13,8 +13,7 @@ use Rattle.room.specs.Laid.{laid}
 use Rattle.plan.specs.Numbers.{rows_lent}
 use Rattle.reader.specs.Pages.{picked, first_of}
 use Rattle.collector.specs.declared.store.Collector.{Collector}
-use Rattle.collector.specs.declared.store.PageAt.{PageAt}
-use Rattle.collector.specs.declared.store.PageAt.TheVariants.{Here, Missing}
+use Rattle.collector.specs.declared.store.Slot.{Slot}
 
 -- the collector without any page
 abbrev pub empty_collector : Collector
@@ -35,8 +34,8 @@ unfoldable pub here : List ℕ → ℕ → Bool
 here lens n = leb 1 n && (leb n 9 && (leb 1 (len_of lens n) && leb (len_of lens n) page_bytes))
 
 -- the page's place and length, or nothing
-unfoldable pub page_at : List ℕ → ℕ → PageAt
-page_at lens n = if (here lens n) (Here (start_of n) (len_of lens n)) (Missing n)
+unfoldable pub page_at : List ℕ → ℕ → Option Slot
+page_at lens n = if (here lens n) (Some (record { start = start_of n; len = len_of lens n })) None
 
 -- the bytes that are kept for number n
 abbrev pub kept : List ℕ → List ℕ → ℕ → List ℕ

@@ -2,10 +2,9 @@
 -- says of the page.
 -- Assumes nothing.
 use Rattle.std.specs.Prelude.{◌≡◌}
-use Rattle.collector.specs.Answers.{Tells}
+use Rattle.collector.specs.Answers.{Answer, Tells}
 use Rattle.collector.specs.Keeping.{Answered}
 use Rattle.collector.specs.declared.store.Collector.{Collector}
-use Rattle.collector.specs.declared.adding.Answer.{Answer}
 
 -- where document 01 answers so: the answer is the same case, a refusal with its number, page and place; and the collector is as said, so as it was where the page
 -- is not added

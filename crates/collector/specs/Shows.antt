@@ -5,10 +5,10 @@ use Rattle.std.specs.Prelude.{◌≡◌, true, List, [], ◌∷◌, ℕ, length}
 use Rattle.paper.specs.Reading.{has}
 use Rattle.paper.specs.Collecting as Paper
 use Rattle.paper.specs.Calls.{page_room}
+use Rattle.collector.specs.Answers.{Answer}
 use Rattle.collector.specs.Keeping.{here, kept, added_to}
 use Rattle.collector.specs.Promise.{Promised}
 use Rattle.collector.specs.declared.store.Collector.{Collector}
-use Rattle.collector.specs.declared.adding.Answer.{Answer}
 
 -- how many pages there are, as the first page says; 0 where there is none
 abbrev pub count_in : Paper.Collector → ℕ

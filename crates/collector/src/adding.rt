@@ -8,22 +8,23 @@ ghost use Rattle.tape.specs.Making.{IsSheet};
 ghost use Rattle.collector.specs.Keeping.{agrees_with, agrees_first, first_with, taken_in, added_to, added_call};
 ghost use Rattle.collector.specs.Promise.{Promised};
 
-use crate::store::{Collector, PageAt, page_at};
+use crate::store::{Collector, Slot, page_at};
 use reader::alone::{belong, numbers_of};
-use reader::answer::{Answer as Refusal, refused_page};
+use reader::answer::Refusal;
 use room::{lay, lies_in, spells};
-use sheet::judge::{Verdict, judge_page};
+use sheet::judge::judge_page;
 
-// What is answered to a page.
-#[derive(Clone, Copy)]
-pub enum Answer {
+// What is done with a page that is not refused.
+#[derive(Clone, Copy, PartialEq, Eq)]
+pub enum Kept {
     // The page is kept.
     Added,
     // The page is here already, with the same bytes.
     AlreadyHere,
-    // The page is refused, and called page 1.
-    Refused(Refusal),
 }
+
+// What is answered to a page: a refusal calls it page 1.
+pub type Answer = Result<Kept, Refusal>;
 
 // The answer, and the collector afterwards.
 #[derive(Clone, Copy)]
@@ -37,7 +38,7 @@ fn unchanged(c: Collector, answer: Answer) -> Adding
     ensures { (result.answer ≡ answer) × (result.collector ≡ c) }
 {
     Adding {
-        answer: answer,
+        answer,
         collector: c,
     }
 }
@@ -48,11 +49,10 @@ fn agrees<'a>(first: &'a [u8], page: &'a [u8]) -> bool
     ensures { result ≡ agrees_with (content_of (tags_at page.now 0)) (judge first.now) }
 {
     let mut scratch = [0u8; Collector::PAGE];
-    let verdict = judge_page(first, &mut scratch);
-    let Verdict::Fine = verdict else {
-        return false;
-    };
-    belong(first, page)
+    match judge_page(first, &mut scratch) {
+        Ok(()) => belong(first, page),
+        Err(_) => false,
+    }
 }
 
 // Whether a page has the head and the count of the collector's first page, or there is none yet.
@@ -60,22 +60,21 @@ fn agrees_first<'a>(pages: &'a [u8], lens: [u16; 9], first: u8, page: &'a [u8]) 
     requires { (length pages.now ≡ page_room) × IsSheet page.now }
     ensures { result ≡ agrees_first pages.now lens first (content_of (tags_at page.now 0)) }
 {
-    let at = page_at(lens, first);
-    let PageAt::Here { start, len } = at else {
-        return true;
-    };
-    agrees(&pages[start..start + len], page)
+    match page_at(lens, first) {
+        Some(at) => agrees(&pages[at.start..at.start + at.len], page),
+        None => true,
+    }
 }
 
 // The number of the page that came first, once the page of number n is kept.
+#[tactic(auto, unfolding(crate::specs::Keeping::first_with, crate::specs::Keeping::page_at))]
 fn first_with(lens: [u16; 9], first: u8, n: u8) -> u8
     ensures { result ≡ first_with lens first n }
 {
-    let at = page_at(lens, first);
-    let PageAt::Here { start: _, len: _ } = at else {
-        return n;
-    };
-    first
+    match page_at(lens, first) {
+        Some(_) => first,
+        None => n,
+    }
 }
 
 // A page without faults: refused with 9 against the first page, already here, refused with 10, or kept.
@@ -86,28 +85,26 @@ fn take_in(c: Collector, page: &[u8]) -> Adding
     let mut pages = c.pages;
     let mut lens = c.lens;
     if !agrees_first(&pages, lens, c.first, page) {
-        return unchanged(c, Answer::Refused(Refusal::OtherHead(1)));
+        return unchanged(c, Err(Refusal::OtherHead(1)));
     }
     let said = numbers_of(page);
-    let no = said.no;
-    let at = page_at(lens, no);
-    if let PageAt::Here { start, len } = at {
-        if spells(&pages, start, start + len, page) {
-            return unchanged(c, Answer::AlreadyHere);
+    if let Some(at) = page_at(lens, said.no) {
+        if spells(&pages, at.start, at.start + at.len, page) {
+            return unchanged(c, Ok(Kept::AlreadyHere));
         }
-        return unchanged(c, Answer::Refused(Refusal::NumberTwice(1)));
+        return unchanged(c, Err(Refusal::NumberTwice(1)));
     }
-    let first = first_with(lens, c.first, no);
-    let i = no as usize - 1;
+    let first = first_with(lens, c.first, said.no);
+    let i = said.no as usize - 1;
     lay(&mut pages, i * Collector::PAGE, page);
     lens[i] = page.len() as u16;
     Adding {
-        answer: Answer::Added,
+        answer: Ok(Kept::Added),
         collector: Collector {
-            pages: pages,
-            lens: lens,
+            pages,
+            lens,
             z: said.of,
-            first: first,
+            first,
         },
     }
 }
@@ -117,14 +114,10 @@ pub fn add_bytes(c: Collector, page: &[u8]) -> Adding
     ensures { Promised (added_to c page.now) result.answer result.collector }
 {
     let mut scratch = [0u8; Collector::PAGE];
-    let verdict = judge_page(page, &mut scratch);
-    if let Verdict::Refused { number, place } = verdict {
-        return unchanged(
-            c,
-            Answer::Refused(refused_page(number as u32, 1, place as u32)),
-        );
+    match judge_page(page, &mut scratch) {
+        Ok(()) => take_in(c, page),
+        Err(fault) => unchanged(c, Err(Refusal::of_page(fault.cause, 1, fault.place as u32))),
     }
-    take_in(c, page)
 }
 
 // Adds a page of the buffer, from `start` on, `len` bytes long: added, already here, or refused with 1 (the page lies outside the buffer), 2 to 8, 9 or 10.
@@ -133,7 +126,7 @@ pub fn add(c: Collector, buffer: &[u8], start: usize, len: usize) -> Adding
     ensures { Promised (added_call c buffer.now start len) result.answer result.collector }
 {
     if !lies_in(buffer.len(), start, len) {
-        return unchanged(c, Answer::Refused(Refusal::NoRoom));
+        return unchanged(c, Err(Refusal::NoRoom));
     }
     add_bytes(c, &buffer[start..start + len])
 }

@@ -2,9 +2,8 @@
 ghost use Rattle.reader.specs.Promise.{Promised};
 ghost use Rattle.collector.specs.Keeping.{collected};
 
-use crate::store::{Collector, PageAt, count, page_at};
-use plan::Plan;
-use reader::answer::Answer;
+use crate::store::{Collector, count, page_at};
+use reader::answer::Refusal;
 use reader::call::room_fits;
 use reader::reading::Reading;
 
@@ -14,30 +13,18 @@ pub fn read(c: Collector, rows: &mut [u32], text: &mut [u8]) -> Reading
     ensures { Promised (collected rows.old text.old c) rows.old text.old result rows.new text.new }
 {
     if !room_fits(rows.len(), text.len()) {
-        return Reading {
-            answer: Answer::NoRoom,
-            plan: Plan::empty(),
-        };
+        return Err(Refusal::NoRoom);
     }
-    let z = count(c.z);
-    let pages = c.pages;
-    let lens = c.lens;
+    let z = count(c.z) as usize;
     let mut starts = [0usize; 9];
     let mut sizes = [0usize; 9];
-    let mut k = 0;
-    while k < z {
-        let n = k + 1;
-        let page = page_at(lens, n);
-        let PageAt::Here { start, len } = page else {
-            return Reading {
-                answer: Answer::NumberMissing(n as u32),
-                plan: Plan::empty(),
-            };
+    for k in 0..z {
+        let n = k as u8 + 1;
+        let Some(at) = page_at(c.lens, n) else {
+            return Err(Refusal::NumberMissing(n as u32));
         };
-        starts[k as usize] = start;
-        sizes[k as usize] = len;
-        k = n;
+        starts[k] = at.start;
+        sizes[k] = at.len;
     }
-    let m = z as usize;
-    reader::reading::read(&pages, &starts[..m], &sizes[..m], rows, text)
+    reader::reading::read(&c.pages, &starts[..z], &sizes[..z], rows, text)
 }

@@ -17,11 +17,11 @@ pub struct Collector {
     pub first: u8,
 }
 
-// What is kept for a number: the page, from `start` on in the collector's pages, or nothing.
-#[derive(Clone, Copy)]
-pub enum PageAt {
-    Here { start: usize, len: usize },
-    Missing(u8),
+// Where the page of a number is kept: from `start` on in the collector's pages, `len` bytes long.
+#[derive(Clone, Copy, PartialEq, Eq)]
+pub struct Slot {
+    pub start: usize,
+    pub len: usize,
 }
 
 impl Collector {
@@ -50,31 +50,27 @@ pub fn clear(_c: Collector) -> Collector
     Collector::empty()
 }
 
-// What is kept for a number. Nothing is, where the number is no page's, or the length no page's.
-pub fn page_at(lens: [u16; 9], n: u8) -> PageAt
+// Where the page of a number is kept. None is, where the number is no page's, or the length no page's.
+#[tactic(auto, unfolding(crate::specs::Keeping::page_at, crate::specs::Keeping::here))]
+pub fn page_at(lens: [u16; 9], n: u8) -> Option<Slot>
     ensures { result ≡ page_at lens n }
 {
-    if n < 1 {
-        return PageAt::Missing(n);
-    }
-    if n > Collector::PAGES {
-        return PageAt::Missing(n);
+    if n < 1 || n > Collector::PAGES {
+        return None;
     }
     let i = n as usize - 1;
     let len = lens[i] as usize;
-    if len < 1 {
-        return PageAt::Missing(n);
+    if len < 1 || len > Collector::PAGE {
+        return None;
     }
-    if len > Collector::PAGE {
-        return PageAt::Missing(n);
-    }
-    PageAt::Here {
+    Some(Slot {
         start: i * Collector::PAGE,
-        len: len,
-    }
+        len,
+    })
 }
 
 // How many pages there are, as they say; none where that is no count of pages.
+#[tactic(auto, unfolding(crate::specs::Keeping::count_of))]
 pub fn count(z: u8) -> u8
     ensures { result ≡ count_of z }
 {

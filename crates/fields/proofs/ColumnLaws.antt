@@ -8,13 +8,11 @@ use native.Mathlib.Omega.{arith}
 use lib.Dec.{eqb, leb, ltb}
 use lib.ListN.{length, take, drop, get_or}
 use lib.Seq.{get_or-take, get_or-drop}
-use mir.Syntax.{w64}
-use mir.Val.{Fits}
 use borrow.Author.Tests.{eqb-true, leb-true}
 use Rattle.paper.specs.Lists.{same, every}
 use Rattle.paper.specs.Fields.{Kind, code, Field, table, fields_of, tag_name, excluded}
-use Rattle.paper.proofs.Small.{both, below_at, same_eq, every_at}
-use Rattle.fields.specs.Places.{field_count, kind_at, rule_number, no_field, field_at, first_of, count_of, under, ones_of, others_of, key_of}
+use Rattle.paper.proofs.Small.{below_at, same_eq, every_at}
+use Rattle.fields.specs.Places.{kind_at, rule_number, no_field, field_at, first_of, count_of, under, ones_of, others_of, key_of}
 use Rattle.fields.specs.Columns.{bit, packed, entry_of, limit_of, part_of, key_column, limit_column, first_column, count_column, child_key_column, child_kind_column, child_first_column, child_count_column, one_column, other_column, pair_first_column, pair_count_column}
 
 -- ---- a field's columns
@@ -24,16 +22,6 @@ get_d_of : {A : Type 0} (f : A → ℕ) (l : List A) (i : ℕ) (d : A) → i < l
 get_d_of f [] i d h = absurd (omega arith)
 get_d_of f (x ∷ l) zero d h = refl
 get_d_of f (x ∷ l) (suc i) d h = get_d_of f l i d (omega arith)
-
--- the entries of a column of bytes
-small_entry : (l : List ℕ) (i : ℕ) → every (λ (x : ℕ). leb x 255) l ≡ true → get_or l i 0 ≤ 255
-small_entry [] i e = omega arith
-small_entry (x ∷ l) zero e = leb-true x 255 (both (leb x 255) (every (λ (y : ℕ). leb y 255) l) e).0
-small_entry (x ∷ l) (suc i) e = small_entry l i (both (leb x 255) (every (λ (y : ℕ). leb y 255) l) e).1
-
--- fit the widest number
-pub fits_entry : (l : List ℕ) (i : ℕ) → every (λ (x : ℕ). leb x 255) l ≡ true → Fits w64 (get_or l i 0)
-fits_entry l i e = omega (arith, small_entry l i e)
 
 -- the letters of a field
 pub letters_at : (id : ℕ) → id < 52 → get_or key_column id 0 ≡ key_of (field_at id).letters
@@ -144,11 +132,6 @@ pub part_within : (e : ℕ) → e < 10 → first_of (kind_at e) + count_of (kind
 unfolding first_of count_of kind_at fields_of
 part_within e h = leb-true (first_of (kind_at e) + count_of (kind_at e)) 52 (below_at 10 (λ (n : ℕ). leb (first_of (kind_at n) + count_of (kind_at n)) 52) refl e h)
 
--- the table has as many fields as is said
-pub table_length : length table ≡ field_count
-unfolding fields_of
-table_length = refl
-
 -- the column of keys is as long as the table
 pub key_length : length key_column ≡ 52
 unfolding key_column fields_of
@@ -178,12 +161,6 @@ unfolding kind_at fields_of
 short_letters e h = below_at 10 (λ (n : ℕ). every (λ (f : Field). short f.letters) (fields_of (kind_at n))) refl e h
 
 -- ---- a parent's part of the columns
-
--- what a parent may hold stands within the columns
-pub child_within : (p : ℕ) → p < 11 → get_or child_first_column p 0 + get_or child_count_column p 0 ≤ 9
-unfolding child_first_column child_count_column under kind_at
-child_within p h = leb-true (get_or child_first_column p 0 + get_or child_count_column p 0) 9
-    (below_at 11 (λ (n : ℕ). leb (get_or child_first_column n 0 + get_or child_count_column n 0) 9) refl p h)
 
 -- the part of a parent holds the names of what it may hold
 pub child_keys : (p : ℕ) → p < 11 → take (get_or child_count_column p 0) (drop (get_or child_first_column p 0) child_key_column) ≡ map kind_key (under p)

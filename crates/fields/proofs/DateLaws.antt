@@ -1,21 +1,25 @@
--- DateLaws: the list of months, and months that no year has.
+-- DateLaws: the days of February, and tests one after the other.
 -- Assumes nothing.
-use mathlib.Core.Path.{◌≡◌, ap, ◌∙◌}
-use mathlib.Core.Bool.{Bool}
-use mathlib.Core.List.{[], ◌∷◌}
-use Prim.Native.Nat.{ℕ, ◌≤◌}
-use lib.ListN.{get_or, get_or-eq_default}
-use Rattle.paper.specs.Lists.{if}
+use mathlib.Core.Path.{◌≡◌, sym, ◌∙◌}
+use mathlib.Core.Bool.{Bool, true, false, ◌||◌}
+use Prim.Native.Nat.{ℕ}
 use Rattle.paper.specs.Rules.{leap, month_days}
+use Rattle.paper.proofs.Small.{no}
 
--- months above 12 have no day
-pub no_month : (y m : ℕ) → 13 ≤ m → month_days y m ≡ 0
-no_month y m h = get_or-eq_default (0 ∷ 31 ∷ if (leap y) 29 28 ∷ 31 ∷ 30 ∷ 31 ∷ 30 ∷ 31 ∷ 31 ∷ 30 ∷ 31 ∷ 30 ∷ 31 ∷ []) 0 h
+-- February in a leap year
+pub leap_february : (y m : ℕ) → m ≡ 2 → true ≡ leap y → 29 ≡ month_days y m
+leap_february y m e l = rw (e, ← l)
 
--- the list of months with February's days
-pub months : (y m x : ℕ) → x ≡ month_days y 2 → get_or (0 ∷ 31 ∷ x ∷ 31 ∷ 30 ∷ 31 ∷ 30 ∷ 31 ∷ 31 ∷ 30 ∷ 31 ∷ 30 ∷ 31 ∷ []) m 0 ≡ month_days y m
-months y m x e = ap (λ (d : ℕ). get_or (0 ∷ 31 ∷ d ∷ 31 ∷ 30 ∷ 31 ∷ 30 ∷ 31 ∷ 31 ∷ 30 ∷ 31 ∷ 30 ∷ 31 ∷ []) m 0) e
+-- February in any other year
+pub short_february : (y m : ℕ) → m ≡ 2 → false ≡ leap y → 28 ≡ month_days y m
+short_february y m e l = rw (e, ← l)
 
--- three equal numbers for three
-pub three : (f : ℕ → ℕ → ℕ → Bool) {a b c x y z : ℕ} → a ≡ x → b ≡ y → c ≡ z → f a b c ≡ f x y z
-three f {a} {b} {c} {x} {y} {z} p q r = ap (λ (n : ℕ). f n b c) p ∙ ap (λ (n : ℕ). f x n c) q ∙ ap (f x y) r
+-- the first of two tests holds
+pub either_first : (a b r : Bool) → r ≡ a → r ≡ true → r ≡ (a || b)
+either_first true b r e t = e
+either_first false b r e t = no (sym t ∙ e)
+
+-- it fails, and the second one decides
+pub either_second : (a b r s : Bool) → r ≡ a → r ≡ false → s ≡ b → s ≡ (a || b)
+either_second true b r s e f g = no (sym e ∙ f)
+either_second false b r s e f g = g

@@ -15,31 +15,19 @@ use Rattle.paper.specs.Bytes.{is_digit}
 use Rattle.paper.specs.Rules.{is_byte, tail_ok}
 use Rattle.fields.proofs.NumberLaws.{above}
 
--- nothing stands behind them
-pub tail_none : (v : List ℕ) (n : ℕ) → length v ≤ n → tail_ok (drop n v) ≡ true
-tail_none v n h = rw (drop_of_length-le v h)
-
 -- one byte alone
-pub tail_short : (v : List ℕ) (n : ℕ) → n < length v → n + 1 ≡ length v → tail_ok (drop n v) ≡ false
+pub tail_short : (v : List ℕ) (n : ℕ) → n < length v → length v ≤ n + 1 → tail_ok (drop n v) ≡ false
 tail_short v n h e = let l : length v ≤ suc n = omega arith in rw (drop-cons v n 0, drop_of_length-le v l)
 
-module _ (v : List ℕ) (n : ℕ) (h : n < length v) (more : n + 1 ≡ length v → ⊥) where
+module _ (v : List ℕ) (n : ℕ) (h : n < length v) (more : n + 1 < length v) where
   open_up : tail_ok (drop n v)
       ≡ (every is_digit (drop (n + 1) v) && (eqb (get_or v n 0) 44 || (eqb (get_or v n 0) 47 && leb 1 (number 0 (drop (n + 1) v)))))
   open_up = let l : suc n < length v = omega arith in rw (add-one, drop-cons v n 0 h, drop-cons v (suc n) 0 l)
-
-  -- a comma and digits
-  pub tail_comma : every is_digit (drop (n + 1) v) ≡ true → get_or v n 0 ≡ 44 → tail_ok (drop n v) ≡ true
-  tail_comma d e = open_up ∙ rw (d, eq-eqb (get_or v n 0) 44 e)
 
   -- a slash and digits
   pub tail_slash : every is_digit (drop (n + 1) v) ≡ true → (get_or v n 0 ≡ 44 → ⊥) → get_or v n 0 ≡ 47
       → tail_ok (drop n v) ≡ not (every (is_byte 48) (drop (n + 1) v))
   tail_slash d e f = open_up ∙ rw (d, ne_eqb (get_or v n 0) 44 e, eq-eqb (get_or v n 0) 47 f) (above (drop (n + 1) v) d)
-
-  -- another byte and digits
-  pub tail_other : every is_digit (drop (n + 1) v) ≡ true → (get_or v n 0 ≡ 44 → ⊥) → (get_or v n 0 ≡ 47 → ⊥) → tail_ok (drop n v) ≡ false
-  tail_other d e f = open_up ∙ rw (d, ne_eqb (get_or v n 0) 44 e, ne_eqb (get_or v n 0) 47 f)
 
   -- something that is no digit
   pub tail_mixed : every is_digit (drop (n + 1) v) ≡ false → tail_ok (drop n v) ≡ false

@@ -3,7 +3,6 @@ pub mod SetLaws
 pub mod DateLaws
 pub mod NumberLaws
 pub mod DoseLaws
-pub mod PackageLaws
 pub mod RuleLaws
 pub mod LookupLaws
 pub mod NameLaws

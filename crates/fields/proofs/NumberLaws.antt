@@ -81,18 +81,14 @@ decimal_up zero h = absurd (h refl)
 decimal_up (suc n) h = refl
 
 -- the last digit
-pub width_now : (w m : ℕ) → w < 9 → m < 10 → w + length (digits_of (9 - w) m) ≡ w + 1
-width_now w m h l = let e : 9 - w ≡ suc (8 - w) = omega arith in rw e (rw (lt-ltb m 10 l, digits_of))
+pub width_now : (w m : ℕ) → w < 10 → m < 10 → w + length (digits_of (10 - w) m) ≡ w + 1
+width_now w m h l = let e : 10 - w ≡ suc (9 - w) = omega arith in rw e (rw (lt-ltb m 10 l, digits_of))
 
 -- a digit before it
-pub width_on : (w m : ℕ) → w < 9 → 10 ≤ m → w + length (digits_of (9 - w) m) ≡ w + 1 + length (digits_of (9 - (w + 1)) (m / 10))
+pub width_on : (w m : ℕ) → w < 10 → 10 ≤ m → w + length (digits_of (10 - w) m) ≡ w + 1 + length (digits_of (10 - (w + 1)) (m / 10))
 width_on w m h l =
-    let e : 9 - w ≡ suc (9 - (w + 1)) = omega arith in
-    rw e (rw (le-ltb m 10 l, digits_of) (let f = length-append (digits_of (9 - (w + 1)) (m / 10)) ((48 + m % 10) ∷ []) in omega arith))
-
--- nine digits are the most
-pub width_nine : (w m : ℕ) → w ≤ 9 → 9 ≤ w → w + length (digits_of (9 - w) m) ≡ w
-width_nine w m h l = let e : 9 - w ≡ 0 = omega arith in rw e (omega arith)
+    let e : 10 - w ≡ suc (10 - (w + 1)) = omega arith in
+    rw e (rw (le-ltb m 10 l, digits_of) (let f = length-append (digits_of (10 - (w + 1)) (m / 10)) ((48 + m % 10) ∷ []) in omega arith))
 
 -- ---- digits from the last one on
 

@@ -2,20 +2,25 @@
 -- Assumes nothing.
 use mathlib.Core.Path.{◌≡◌, refl, sym, ap, ◌∙◌}
 use mathlib.Core.Bool.{Bool, true, false, ◌&&◌}
-use mathlib.Core.List.{List, [], ◌∷◌}
-use Prim.Native.Nat.{ℕ, zero, suc, ◌+◌, ◌≤◌, ◌<◌}
-use native.Mathlib.Nat.{add-zero}
+use mathlib.Core.List.{List, []}
+use Prim.Native.Nat.{ℕ, suc, ◌+◌, ◌≤◌, ◌<◌}
+use native.Mathlib.Nat.{add-zero, zero-add}
 use native.Mathlib.Numerals.{add-one}
 use native.Mathlib.Omega.{arith}
-use lib.Dec.{eqb, leb, ltb}
-use lib.ListN.{length, drop, get_or, drop_of_length-le, get_or-eq_default}
+use lib.Dec.{leb}
+use lib.ListN.{length, drop, get_or, drop_of_length-le}
 use lib.Seq.{drop-cons}
-use borrow.Author.Tests.{ne_eqb, eqb-true, le-leb, lt-leb, ltb-true, ltb-false}
+use borrow.Author.Tests.{ne_eqb, le-leb, lt-leb}
+use Rattle.std.specs.Prelude.{Option}
+use Rattle.std.specs.Bool.{then_some}
+use Rattle.paper.specs.declared.Cause.{Cause}
+use Rattle.paper.specs.declared.Cause.TheVariants.{Incomplete}
+use Rattle.paper.specs.Causes.{flaw_number}
 use Rattle.paper.specs.Lists.{if, every, count, is_empty}
 use Rattle.paper.specs.Bytes.{is_decoded}
 use Rattle.paper.specs.Fields.{Field, Rule, text, version, digits, hexes, language, page_no, birthday, sex, insured, stamp, one, lines, pzn, code3, dose, sign}
-use Rattle.paper.specs.Rules.{lines_ok, is_zero, keeps, obeys}
-use Rattle.paper.proofs.Small.{below_at, both, no}
+use Rattle.paper.specs.Rules.{lines_ok, keeps, obeys}
+use Rattle.paper.proofs.Small.{both}
 use Rattle.fields.specs.Places.{rule_at, rule_number, formed, field_flaw}
 
 -- ---- text
@@ -43,6 +48,10 @@ text_bad t n s i h d = rw (drop-cons s i 0, d)
 -- no byte is left
 pub text_done : (t n : ℕ) (s : List ℕ) (i : ℕ) → length s ≤ i → text_from t n (drop i s) ≡ leb n t
 text_done t n s i h = rw (drop_of_length-le s h) (ap (λ (k : ℕ). leb k t) (add-zero n))
+
+-- no byte is left, and none was a line break
+pub line_all : (t : ℕ) (s : List ℕ) (i : ℕ) → length s ≤ i → text_from t 0 s ≡ text_from t 0 (drop i s) → (every is_decoded s && leb (count 126 s) t) ≡ true
+line_all t s i h e = ap (λ (k : ℕ). every is_decoded s && leb k t) (sym (zero-add (count 126 s))) ∙ e ∙ text_done t 0 s i h ∙ le-leb 0 t (omega arith)
 
 -- ---- lines
 
@@ -83,76 +92,10 @@ rule_back code3 = refl
 rule_back dose = refl
 rule_back sign = refl
 
--- a number of no rule is that of free text
-pub no_rule : (n : ℕ) → 16 ≤ n → rule_at n ≡ text
-no_rule n h = get_or-eq_default
-    (text ∷ version ∷ digits ∷ hexes ∷ language ∷ page_no ∷ birthday ∷ sex ∷ insured ∷ stamp ∷ one ∷ lines ∷ pzn ∷ code3 ∷ dose ∷ sign ∷ []) text h
-
--- a number is none of 1 to k
-abbrev pub NoneOf : ℕ → ℕ → Type 0
-NoneOf n zero = Unit {0}
-NoneOf n (suc k) = NoneOf n k × (n ≡ suc k → ⊥)
-
--- so it is 0, or above k
-pub none_of : (n k : ℕ) → NoneOf n k → 1 ≤ n → suc k ≤ n
-none_of n zero t h = h
-none_of n (suc k) t h = let l = none_of n k t.0 h in let ne : n ≡ suc k → ⊥ = t.1 in omega arith
-
--- every number but those of the other rules is that of free text
-pub text_rule : (n : ℕ) → (1 ≤ n → n ≤ 15 → ⊥) → rule_at n ≡ text
-text_rule zero h = refl
-text_rule (suc n) h = go (ltb n 15) refl
-  where
-    go : (b : Bool) → ltb n 15 ≡ b → rule_at (suc n) ≡ text
-    go true e = absurd (h (omega arith) (ltb-true n 15 e))
-    go false e = let l = ltb-false n 15 e in no_rule (suc n) (omega arith)
-
--- the number of a number's rule
-rule_number_lem : (n : ℕ) → n < 16 → rule_number (rule_at n) ≡ n
-rule_number_lem n h = eqb-true (rule_number (rule_at n)) n (below_at 16 (λ (k : ℕ). eqb (rule_number (rule_at k)) k) refl n h)
-
-only_dose : (r : Rule) (v : List ℕ) → (rule_number r ≡ 14 → ⊥) → is_zero r v ≡ false
-only_dose text v h = refl
-only_dose version v h = refl
-only_dose digits v h = refl
-only_dose hexes v h = refl
-only_dose language v h = refl
-only_dose page_no v h = refl
-only_dose birthday v h = refl
-only_dose sex v h = refl
-only_dose insured v h = refl
-only_dose stamp v h = refl
-only_dose one v h = refl
-only_dose lines v h = refl
-only_dose pzn v h = refl
-only_dose code3 v h = refl
-only_dose dose v h = absurd (h refl)
-only_dose sign v h = refl
-
--- only a dose reads as absent
-pub not_dose : (n : ℕ) (v : List ℕ) → (n ≡ 14 → ⊥) → is_zero (rule_at n) v ≡ false
-not_dose n v h = go (ltb n 16) refl
-  where
-    go : (b : Bool) → ltb n 16 ≡ b → is_zero (rule_at n) v ≡ false
-    go true e = only_dose (rule_at n) v (λ q. h (sym (rule_number_lem n (ltb-true n 16 e)) ∙ q))
-    go false e = rw (no_rule n (ltb-false n 16 e))
-
 -- ---- a field's tests
 
 module _ (f : Field) (v : List ℕ) where
-  -- a value that is too short
-  pub too_short : length v < f.least → false ≡ formed f v
-  too_short h = rw (lt-leb f.least (length v) h)
-
-  -- one that is too long
-  pub too_long : f.most < length v → false ≡ formed f v
-  too_long h = go (leb f.least (length v)) (lt-leb (length v) f.most h)
-    where
-      go : (a : Bool) → leb (length v) f.most ≡ false → false ≡ a && (leb (length v) f.most && obeys f.rule v)
-      go true e = rw e
-      go false e = refl
-
-  -- any other, by the number of its rule
+  -- a value of a length that the field allows, by the number of its rule
   pub fitting : (r : ℕ) → f.least ≤ length v → length v ≤ f.most → r ≡ rule_number f.rule → obeys (rule_at r) v ≡ formed f v
   fitting r l m e = ap (λ (n : ℕ). obeys (rule_at n) v) e ∙ ap (λ (q : Rule). obeys q v) (rule_back f.rule) ∙ sym (rw (le-leb f.least (length v) l, le-leb (length v) f.most m))
 
@@ -160,29 +103,17 @@ module _ (f : Field) (v : List ℕ) where
 pub keeps_by : (f : Field) (v : List ℕ) → (every is_decoded v && leb (count 126 v) f.tildes) ≡ true → formed f v ≡ keeps f v
 keeps_by f v e = let (x, y) = both (every is_decoded v) (leb (count 126 v) f.tildes) e in rw (x, y)
 
--- and broken by what is no text
-pub keeps_none : (f : Field) (v : List ℕ) → (every is_decoded v && leb (count 126 v) f.tildes) ≡ false → false ≡ keeps f v
-keeps_none f v e = sym (go (every is_decoded v) (leb f.least (length v)) (leb (length v) f.most) (leb (count 126 v) f.tildes) e)
-  where
-    go : (a b c d : Bool) → (a && d) ≡ false → (a && (b && (c && (d && obeys f.rule v)))) ≡ false
-    go false b c d e = refl
-    go true false c d e = refl
-    go true true false d e = refl
-    go true true true false e = refl
-    go true true true true e = no e
-
 -- ---- what is wrong with a value
 
 module _ (f : Field) (v : List ℕ) where
-  -- absent, and must not be
-  pub flaw_missing : [] ≡ v → f.must ≡ true → 8 ≡ field_flaw f v
-  unfolding field_flaw
-  flaw_missing e m = rw (← e, m)
-
   -- absent
-  pub flaw_absent : [] ≡ v → f.must ≡ false → 9 ≡ field_flaw f v
+  pub flaw_absent : (o : Option Cause) (b : Bool) → [] ≡ v → o ≡ then_some b Incomplete → b ≡ f.must → flaw_number o ≡ field_flaw f v
   unfolding field_flaw
-  flaw_absent e m = rw (← e, m)
+  flaw_absent o b e p q = rw (p, q, ← e) (go f.must)
+    where
+      go : (m : Bool) → flaw_number (then_some m Incomplete) ≡ if (m && true) 8 9
+      go true = refl
+      go false = refl
 
   -- present, and it keeps its field
   pub flaw_kept : is_empty v ≡ false → keeps f v ≡ true → 9 ≡ field_flaw f v

@@ -1,17 +1,17 @@
 -- SetLaws: runs of bytes of one set, all bytes of a set, and patterns, step by step.
 -- Assumes nothing.
 use mathlib.Core.Path.{◌≡◌, refl, sym, ap, ◌∙◌}
-use mathlib.Core.Bool.{Bool, true, false, not, ◌&&◌, ◌||◌}
+use mathlib.Core.Bool.{Bool, true, false, not, ◌&&◌}
 use mathlib.Core.List.{List, [], ◌∷◌}
 use Prim.Native.Nat.{ℕ, suc, ◌+◌, ◌-◌, ◌≤◌, ◌<◌}
 use native.Mathlib.Numerals.{add-one}
 use native.Mathlib.Omega.{arith}
-use lib.Dec.{eqb, leb, ltb, leb-suc-suc, leb-suc-zero}
+use lib.Dec.{leb, ltb, leb-suc-suc, leb-suc-zero}
 use lib.ListN.{length, drop, get_or, length-drop, drop_of_length-le}
 use lib.Seq.{drop-cons}
 use borrow.Author.Tests.{leb-true, leb-false, lt-ltb, le-ltb, le-leb, lt-leb}
-use Rattle.paper.specs.Lists.{if, every, until, same}
-use Rattle.paper.specs.Rules.{shape, is_byte}
+use Rattle.paper.specs.Lists.{if, every, until}
+use Rattle.paper.specs.Rules.{shape}
 use Rattle.fields.specs.Sets.{in_set, sets}
 
 -- ---- runs
@@ -70,27 +70,3 @@ fit_long (k ∷ p) (c ∷ v) h = go (in_set k c) (fit_long p v (λ e. h (ap suc 
     go : (b : Bool) → shape (sets p) v ≡ false → (b && shape (sets p) v) ≡ false
     go true e = e
     go false e = refl
-
--- a pattern of bytes that stand for themselves
-abbrev pub plain : List ℕ → List (ℕ → Bool)
-plain [] = []
-plain (k ∷ ks) = is_byte k ∷ plain ks
-
--- it fits just itself
-pub plain_same : (t v : List ℕ) → shape (plain t) v ≡ same v t
-plain_same [] [] = refl
-plain_same [] (c ∷ v) = refl
-plain_same (k ∷ t) [] = refl
-plain_same (k ∷ t) (c ∷ v) = ap (λ (b : Bool). eqb c k && b) (plain_same t v)
-
--- ---- truth values
-
--- the middle one of three holds
-pub or_true : (a c : Bool) → ((a || true) || c) ≡ true
-or_true true c = refl
-or_true false c = refl
-
--- the second one of two does not hold
-pub or_false : (a : Bool) → (a || false) ≡ a
-or_false true = refl
-or_false false = refl

@@ -12,130 +12,78 @@ const FIRST_YEAR: u32 = 1875;
 pub fn is_leap(y: u32) -> bool
     ensures { result ≡ leap y }
 {
-    if y % 4 != 0 {
-        return false;
-    }
-    if y % 100 != 0 {
-        return true;
-    }
-    y % 400 == 0
-}
-
-// How many days February has.
-fn february(y: u32) -> u32
-    ensures { result ≡ month_days y 2 }
-{
-    if is_leap(y) {
-        return 29;
-    }
-    28
+    y % 4 == 0 && (y % 100 != 0 || y % 400 == 0)
 }
 
 // How many days a month has; month 0 and months above 12 have none.
 pub fn month_days(y: u32, m: u32) -> u32
     ensures { result ≡ month_days y m }
 {
-    let days = [0, 31, february(y), 31, 30, 31, 30, 31, 31, 30, 31, 30, 31];
-    if m < 13 {
-        return days[m as usize];
+    match m {
+        1 | 3 | 5 | 7 | 8 | 10 | 12 => 31,
+        4 | 6 | 9 | 11 => 30,
+        2 if is_leap(y) => 29,
+        2 => 28,
+        _ => 0,
     }
-    0
 }
 
 // Whether there is such a day, in the years 0001 to 9999.
 pub fn real_day(y: u32, m: u32, d: u32) -> bool
     ensures { result ≡ real_day y m d }
 {
-    if y < 1 {
-        return false;
-    }
-    if d < 1 {
-        return false;
-    }
-    d <= month_days(y, m)
+    y >= 1 && d >= 1 && d <= month_days(y, m)
 }
 
 // Whether a day is after 1 January 1875.
 fn late_day(y: u32, m: u32, d: u32) -> bool
     ensures { result ≡ late_day y m d }
 {
-    if y > FIRST_YEAR {
-        return true;
-    }
-    if y < FIRST_YEAR {
-        return false;
-    }
-    if m != 1 {
-        return true;
-    }
-    d != 1
+    y > FIRST_YEAR || y == FIRST_YEAR && (m != 1 || d != 1)
 }
 
 // Whether there is such a day, and it is after 1 January 1875.
 fn full_date(y: u32, m: u32, d: u32) -> bool
     ensures { result ≡ full_date y m d }
 {
-    if real_day(y, m, d) {
-        return late_day(y, m, d);
-    }
-    false
+    real_day(y, m, d) && late_day(y, m, d)
 }
 
 // Whether a date is a year and month, or a year alone, that may be a birth date: 00 stands for what nobody knows.
 fn partial_date(y: u32, m: u32, d: u32) -> bool
     ensures { result ≡ partial_date y m d }
 {
-    if d != 0 {
-        return false;
-    }
-    if m > 12 {
-        return false;
-    }
-    y >= FIRST_YEAR
+    d == 0 && m <= 12 && y >= FIRST_YEAR
 }
 
 // Whether a date may be a birth date.
 fn born(y: u32, m: u32, d: u32) -> bool
     ensures { result ≡ birth_date y m d }
 {
-    if full_date(y, m, d) {
-        return true;
-    }
-    partial_date(y, m, d)
+    full_date(y, m, d) || partial_date(y, m, d)
 }
 
 // Whether a value is eight digits that show a birth date. (That there are eight is the field's length.)
+#[tactic(auto, unfolding(crate::specs::Sets::in_set))]
 pub fn is_birthday(v: &[u8]) -> bool
     ensures { result ≡ is_birthday v.now }
 {
-    if all_in(v, 0, DIGIT) {
-        return born(shown(v, 0, 4), shown(v, 4, 6), shown(v, 6, 8));
-    }
-    false
+    all_in(v, 0, DIGIT) && born(shown(v, 0, 4), shown(v, 4, 6), shown(v, 6, 8))
 }
 
 // Whether there is such a time of day: 00:00:00 to 23:59:59.
 fn is_time(h: u32, m: u32, s: u32) -> bool
     ensures { result ≡ (leb h 23 && leb m 59 && leb s 59) }
 {
-    if h > 23 {
-        return false;
-    }
-    if m > 59 {
-        return false;
-    }
-    s <= 59
+    h <= 23 && m <= 59 && s <= 59
 }
 
 // Whether a value is a time stamp, YYYY-MM-DDThh:mm:ss, on a real day.
+#[tactic(auto, unfolding(crate::specs::Sets::in_set))]
 pub fn is_stamp(v: &[u8]) -> bool
     ensures { result ≡ is_stamp v.now }
 {
-    if fits(v, b"####-##-##T##:##:##") {
-        if real_day(shown(v, 0, 4), shown(v, 5, 7), shown(v, 8, 10)) {
-            return is_time(shown(v, 11, 13), shown(v, 14, 16), shown(v, 17, 19));
-        }
-        return false;
-    }
-    false
+    fits(v, b"####-##-##T##:##:##")
+        && real_day(shown(v, 0, 4), shown(v, 5, 7), shown(v, 8, 10))
+        && is_time(shown(v, 11, 13), shown(v, 14, 16), shown(v, 17, 19))
 }

@@ -6,6 +6,7 @@ ghost use Rattle.fields.specs.Places.{rule_at};
 use crate::sets::{DIGIT, above_zero, all_in, fits, run};
 
 // Whether what stands behind the first digits is nothing, a comma and digits, or a slash and digits that are above zero.
+#[tactic(auto, using(crate::proofs::NumberLaws::above), unfolding(crate::specs::Sets::in_set))]
 fn tail_ok(v: &[u8], n: usize) -> bool
     ensures { result ≡ tail_ok (drop n v.now) }
 {
@@ -13,38 +14,22 @@ fn tail_ok(v: &[u8], n: usize) -> bool
         return true;
     }
     let s = n + 1;
-    if s == v.len() {
-        return false;
-    }
-    if all_in(v, s, DIGIT) {
-        if v[n] == b',' {
-            return true;
-        }
-        if v[n] == b'/' {
-            return above_zero(v, s);
-        }
-        return false;
-    }
-    false
+    s < v.len() && all_in(v, s, DIGIT) && (v[n] == b',' || v[n] == b'/' && above_zero(v, s))
 }
 
 // Whether a value is a dose.
+#[tactic(auto, unfolding(crate::specs::Sets::in_set))]
 pub fn is_dose(v: &[u8]) -> bool
     ensures { result ≡ is_dose v.now }
 {
     let n = run(v, 0, DIGIT);
-    if n < 1 {
-        return false;
-    }
-    tail_ok(v, n)
+    n >= 1 && tail_ok(v, n)
 }
 
 // Whether a value of a rule reads as absent: in a dose exactly "0".
+#[tactic(auto, unfolding(crate::specs::Sets::in_set))]
 pub fn is_zero(rule: u8, v: &[u8]) -> bool
     ensures { result ≡ is_zero (rule_at rule) v.now }
 {
-    if rule == 14 {
-        return fits(v, b"0");
-    }
-    false
+    rule == 14 && fits(v, b"0")
 }

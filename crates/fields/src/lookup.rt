@@ -86,8 +86,7 @@ pub fn rule_of(id: usize) -> u8
     requires { id < field_count }
     ensures { result ≡ rule_number (field_at id).rule }
 {
-    let limits = limits();
-    rule_in(&limits, id)
+    rule_in(&limits(), id)
 }
 
 // The number at a place of a packed column.
@@ -141,6 +140,7 @@ pub fn pair_other(element: u8, i: usize) -> usize
 }
 
 // The key of a name; 0 for one of more than seven bytes, which no element and no field has.
+#[tactic(auto, using(crate::proofs::LookupLaws::key_room, crate::proofs::LookupLaws::key_small, crate::proofs::LookupLaws::key_on))]
 pub fn key(name: &[u8]) -> u64
     ensures { result ≡ key_or_none name.now }
 {
@@ -148,27 +148,24 @@ pub fn key(name: &[u8]) -> u64
         return 0;
     }
     let mut k = 1;
-    let mut i = name.len();
-    while i > 0 {
-        i -= 1;
+    for i in (0..name.len()).rev() {
         k = k * 256 + name[i] as u64;
     }
     k
 }
 
 // How many keys stand before the one that is looked for, from one place up to another; all of them if it is not there.
+#[tactic(auto, using(crate::proofs::LookupLaws::find_here, crate::proofs::LookupLaws::find_on, crate::proofs::LookupLaws::find_none))]
 pub fn find(keys: &[u64], from: usize, to: usize, k: u64) -> usize
     requires { (from ≤ to) × (to ≤ length keys.now) }
     ensures { (result ≡ until (other k) (take (to - from) (drop from keys.now))) × (result ≤ to - from) }
 {
-    let mut i = from;
-    while i < to {
+    for i in from..to {
         if keys[i] == k {
             return i - from;
         }
-        i += 1;
     }
-    i - from
+    to - from
 }
 
 // The place of a field among its element's, by its letters; the number of the element's fields if it has no such field.
@@ -186,8 +183,7 @@ pub fn field(element: u8, name: &[u8]) -> usize
     requires { element < kind_count }
     ensures { (result ≡ place_in name.now (fields_of (kind_at element))) × (result ≤ count_of (kind_at element)) }
 {
-    let keys = keys();
-    field_in(&keys, element, name)
+    field_in(&keys(), element, name)
 }
 
 // The element of a name under a parent, 0 if the parent may not hold such a one; parent 10 is outside of all elements.
@@ -200,8 +196,5 @@ pub fn child(parent: u8, name: &[u8]) -> u8
     let first = CHILD_FIRSTS[parent as usize] as usize;
     let count = CHILD_COUNTS[parent as usize] as usize;
     let i = find(&keys, first, first + count, key(name));
-    if i < count {
-        return kinds[first + i];
-    }
-    0
+    if i < count { kinds[first + i] } else { 0 }
 }

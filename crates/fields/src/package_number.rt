@@ -10,10 +10,7 @@ use room::byte_or;
 fn zeros_before(v: &[u8]) -> usize
     ensures { result ≡ 8 - length v.now }
 {
-    if v.len() < 8 {
-        return 8 - v.len();
-    }
-    0
+    8usize.saturating_sub(v.len())
 }
 
 // The n-th digit, counted from 1, of a package number that is padded on the left to eight; 0 where it has none.
@@ -22,9 +19,10 @@ fn nth_digit(v: &[u8], n: usize) -> u32
 {
     let zeros = zeros_before(v);
     if n <= zeros {
-        return 0;
+        0
+    } else {
+        digit(byte_or(v, n - zeros - 1))
     }
-    digit(byte_or(v, n - zeros - 1))
 }
 
 // Whether the check digit is right: each of the first seven digits times its weight, 1 to 7, all added; the remainder by 11 equals the eighth digit.
@@ -50,14 +48,9 @@ pub fn is_checked(v: &[u8]) -> bool
 }
 
 // Whether a value is a package number.
+#[tactic(auto, using(crate::proofs::NumberLaws::above), unfolding(crate::specs::Sets::in_set))]
 pub fn is_package(v: &[u8]) -> bool
     ensures { result ≡ is_package v.now }
 {
-    if all_in(v, 0, DIGIT) {
-        if above_zero(v, 0) {
-            return is_checked(v);
-        }
-        return false;
-    }
-    false
+    all_in(v, 0, DIGIT) && above_zero(v, 0) && is_checked(v)
 }

@@ -1,9 +1,10 @@
 // Whether a value keeps its field's rule: its bytes, its length, its line breaks, its form.
-ghost use Rattle.std.specs.Prelude.{◌≡◌, true, ◌&&◌, ℕ, ◌≤◌, ◌<◌, leb, length};
+ghost use Rattle.std.specs.Prelude.{◌≡◌, true, false, ◌&&◌, ℕ, ◌≤◌, ◌<◌, leb, length};
 ghost use Rattle.std.proofs.Math.Seq.{slice};
 ghost use Rattle.paper.specs.Lists.{every, count};
 ghost use Rattle.paper.specs.Bytes.{is_decoded};
 ghost use Rattle.paper.specs.Rules.{obeys, keeps, lines_ok};
+ghost use Rattle.paper.specs.Causes.{flaw_number};
 ghost use Rattle.fields.specs.Places.{rule_at, formed, field_flaw, field_at, field_count};
 ghost use Rattle.fields.specs.Columns.{limit_column};
 
@@ -13,41 +14,37 @@ use crate::lookup::{least_in, limits, most_in, must_in, rule_in, tildes_in};
 use crate::package_number::is_package;
 use crate::places::FIELDS;
 use crate::sets::{CODE, DIGIT, HEX, NUMBER, SEX, SIGN, all_in, fits, is_decoded};
+use paper::Cause;
 
-// 0 for a byte that may stand in a value and is no line break "~", else 1.
-fn stops(b: u8) -> u8
-    ensures { result ≡ 0 → (is_decoded b ≡ true) × (b ≡ 126 → ⊥) }
+// Whether a byte may not stand in a value or is a line break "~".
+fn stops(b: u8) -> bool
+    ensures { result ≡ false → (is_decoded b ≡ true) × (b ≡ 126 → ⊥) }
 {
-    ((b < 32) | ((b >= 126) & (b < 160))) as u8
+    matches!(b, 0..32 | 126..160)
 }
 
 // Whether all bytes may stand in a value and none is a line break. No byte ends the look early, so that many can be taken at once.
+#[tactic(auto, using(crate::proofs::RuleLaws::text_mark, crate::proofs::RuleLaws::text_done))]
 fn is_line(v: &[u8]) -> bool
     ensures { result ≡ true → (tildes : ℕ) → (every is_decoded v.now && leb (count 126 v.now) tildes) ≡ true }
 {
-    let mut stopped = 0u8;
-    let mut i = 0;
-    while i < v.len() {
-        stopped = stopped | stops(v[i]);
-        i += 1;
+    let mut stopped = false;
+    for b in v {
+        stopped |= stops(*b);
     }
-    stopped == 0
+    !stopped
 }
 
 // Whether all bytes may stand in a value, and no more than so many of them are line breaks "~", byte by byte.
+#[tactic(auto, using(crate::proofs::RuleLaws::text_break, crate::proofs::RuleLaws::text_mark, crate::proofs::RuleLaws::text_bad, crate::proofs::RuleLaws::text_done))]
 fn is_text_each(v: &[u8], tildes: usize) -> bool
     ensures { result ≡ (every is_decoded v.now && leb (count 126 v.now) tildes) }
 {
     let mut n = 0;
-    let mut i = 0;
-    while i < v.len() {
-        let j = i + 1;
-        if v[i] == b'~' {
+    for b in v {
+        if *b == b'~' {
             n += 1;
-            i = j;
-        } else if is_decoded(v[i]) {
-            i = j;
-        } else {
+        } else if !is_decoded(*b) {
             return false;
         }
     }
@@ -58,26 +55,20 @@ fn is_text_each(v: &[u8], tildes: usize) -> bool
 fn is_text(v: &[u8], tildes: usize) -> bool
     ensures { result ≡ (every is_decoded v.now && leb (count 126 v.now) tildes) }
 {
-    if is_line(v) {
-        return true;
-    }
-    is_text_each(v, tildes)
+    is_line(v) || is_text_each(v, tildes)
 }
 
 // Whether the lines of a value, parted by "~", have at most 25 bytes each.
+#[tactic(auto, using(crate::proofs::RuleLaws::line_mark, crate::proofs::RuleLaws::line_break, crate::proofs::RuleLaws::line_long, crate::proofs::RuleLaws::line_done))]
 fn has_lines(v: &[u8]) -> bool
     ensures { result ≡ lines_ok 0 v.now }
 {
     let mut n: usize = 0;
-    let mut i = 0;
-    while i < v.len() {
-        let j = i + 1;
-        if v[i] != b'~' {
+    for b in v {
+        if *b != b'~' {
             n += 1;
-            i = j;
         } else if n <= 25 {
             n = 0;
-            i = j;
         } else {
             return false;
         }
@@ -87,6 +78,7 @@ fn has_lines(v: &[u8]) -> bool
 
 // Whether a value keeps a rule: 0 free text, 1 the edition, 2 digits, 3 digits or A to F, 4 a language, 5 a page number, 6 a birthday,
 // 7 a sex, 8 an insured person's number, 9 a time stamp, 10 a "1", 11 lines, 12 a package number, 13 a code, 14 a dose, 15 a sign.
+#[tactic(auto, unfolding(crate::specs::Sets::in_set))]
 pub fn keeps_rule(rule: u8, v: &[u8]) -> bool
     ensures { result ≡ obeys (rule_at rule) v.now }
 {
@@ -115,17 +107,10 @@ pub fn keeps_form(limits: &[u64; FIELDS], id: usize, v: &[u8]) -> bool
     requires { (limits.now ≡ limit_column) × (id < field_count) }
     ensures { result ≡ formed (field_at id) v.now }
 {
-    if v.len() < least_in(limits, id) {
-        return false;
-    }
-    if v.len() > most_in(limits, id) {
-        return false;
-    }
     let rule = rule_in(limits, id);
-    if rule == 0 {
-        return true;
-    }
-    keeps_rule(rule, v)
+    least_in(limits, id) <= v.len()
+        && v.len() <= most_in(limits, id)
+        && (rule == 0 || keeps_rule(rule, v))
 }
 
 // Whether a present value keeps its field, with the limits of the table handed down by a caller that copies them once.
@@ -133,27 +118,27 @@ pub fn keeps_in(limits: &[u64; FIELDS], id: usize, v: &[u8]) -> bool
     requires { (limits.now ≡ limit_column) × (id < field_count) }
     ensures { result ≡ keeps (field_at id) v.now }
 {
-    if is_text(v, tildes_in(limits, id)) {
-        return keeps_form(limits, id, v);
-    }
-    false
+    is_text(v, tildes_in(limits, id)) && keeps_form(limits, id, v)
 }
 
-// What is wrong with the value from `from` up to `to` of a text: 7 if it breaks its field, 8 if it must be present and is not, 9 if nothing is.
-pub fn value_flaw(limits: &[u64; FIELDS], id: usize, text: &[u8], from: usize, to: usize) -> u8
+// What is wrong with the value from `from` up to `to` of a text: it breaks its field, or it must be present and is not, or nothing is.
+pub fn value_flaw(
+    limits: &[u64; FIELDS],
+    id: usize,
+    text: &[u8],
+    from: usize,
+    to: usize,
+) -> Option<Cause>
     requires { (limits.now ≡ limit_column) × (id < field_count) × (from ≤ to) × (to ≤ length text.now) }
-    ensures { result ≡ field_flaw (field_at id) (slice from to text.now) }
+    ensures { flaw_number result ≡ field_flaw (field_at id) (slice from to text.now) }
 {
     if from == to {
-        if must_in(limits, id) {
-            return 8;
-        }
-        return 9;
+        must_in(limits, id).then_some(Cause::Incomplete)
+    } else if keeps_in(limits, id, &text[from..to]) {
+        None
+    } else {
+        Some(Cause::Value)
     }
-    if keeps_in(limits, id, &text[from..to]) {
-        return 9;
-    }
-    7
 }
 
 // Whether a value keeps its field, with the limits of the table itself.
@@ -161,6 +146,5 @@ pub fn keeps_field(id: usize, v: &[u8]) -> bool
     requires { id < field_count }
     ensures { result ≡ keeps (field_at id) v.now }
 {
-    let limits = limits();
-    keeps_in(&limits, id, v)
+    keeps_in(&limits(), id, v)
 }

@@ -22,116 +22,42 @@ pub const CODE: u8 = b'C';
 // A letter of either case or a digit.
 pub const SIGN: u8 = b'L';
 
-// Whether a byte stands between two others, both included.
-fn between(b: u8, low: u8, high: u8) -> bool
-    ensures { result ≡ (leb low b && leb b high) }
-{
-    if b < low {
-        return false;
-    }
-    b <= high
-}
-
 // Whether a byte may stand in a value once it is decoded: 32 to 126 and 160 to 255.
 pub fn is_decoded(b: u8) -> bool
     ensures { result ≡ is_decoded b }
 {
-    if between(b, 32, 126) {
-        return true;
-    }
-    between(b, 160, 255)
-}
-
-// Whether a byte is a digit or a capital A to F.
-fn is_hex(b: u8) -> bool
-    ensures { result ≡ is_hex_capital b }
-{
-    if between(b, 48, 57) {
-        return true;
-    }
-    between(b, 65, 70)
-}
-
-// Whether a byte is one of M W D X.
-fn is_sex(b: u8) -> bool
-    ensures { result ≡ in_set 83 b }
-{
-    if b == b'M' {
-        return true;
-    }
-    if b == b'W' {
-        return true;
-    }
-    if b == b'D' {
-        return true;
-    }
-    b == b'X'
-}
-
-// Whether a byte is a capital letter or a digit.
-fn is_code(b: u8) -> bool
-    ensures { result ≡ in_set 67 b }
-{
-    if between(b, 65, 90) {
-        return true;
-    }
-    between(b, 48, 57)
-}
-
-// Whether a byte is a letter of either case or a digit.
-fn is_sign(b: u8) -> bool
-    ensures { result ≡ in_set 76 b }
-{
-    if between(b, 97, 122) {
-        return true;
-    }
-    is_code(b)
+    matches!(b, 32..=126 | 160..=255)
 }
 
 // Whether a byte stands in a set.
+#[tactic(auto, unfolding(crate::specs::Sets::in_set))]
 pub fn in_set(k: u8, b: u8) -> bool
     ensures { result ≡ in_set k b }
 {
-    if k == DIGIT {
-        return between(b, 48, 57);
+    match k {
+        DIGIT => matches!(b, b'0'..=b'9'),
+        CAPITAL => matches!(b, b'A'..=b'Z'),
+        SMALL => matches!(b, b'a'..=b'z'),
+        HEX => matches!(b, b'0'..=b'9' | b'A'..=b'F'),
+        NUMBER => matches!(b, b'1'..=b'9'),
+        SEX => matches!(b, b'M' | b'W' | b'D' | b'X'),
+        CODE => matches!(b, b'A'..=b'Z' | b'0'..=b'9'),
+        SIGN => matches!(b, b'a'..=b'z' | b'A'..=b'Z' | b'0'..=b'9'),
+        _ => b == k,
     }
-    if k == CAPITAL {
-        return between(b, 65, 90);
-    }
-    if k == SMALL {
-        return between(b, 97, 122);
-    }
-    if k == HEX {
-        return is_hex(b);
-    }
-    if k == NUMBER {
-        return between(b, 49, 57);
-    }
-    if k == SEX {
-        return is_sex(b);
-    }
-    if k == CODE {
-        return is_code(b);
-    }
-    if k == SIGN {
-        return is_sign(b);
-    }
-    b == k
 }
 
 // Where a run of bytes of one set ends that starts at `from`: at the first byte that is not in the set, or at the end.
+#[tactic(auto, using(room::proofs::Runs::run_ends, room::proofs::Runs::run_on, room::proofs::Runs::run_over))]
 pub fn run(v: &[u8], from: usize, k: u8) -> usize
     ensures { result ≡ from + until (in_set k) (drop from v.now) }
 {
-    let mut i = from;
-    while i < v.len() {
-        if in_set(k, v[i]) {
-            i += 1;
-        } else {
+    for i in from..v.len() {
+        if !in_set(k, v[i]) {
             return i;
         }
     }
-    i
+    from.max(v.len())
 }
 
 // Whether all bytes from a place on stand in a set.
@@ -149,17 +75,15 @@ pub fn above_zero(v: &[u8], from: usize) -> bool
 }
 
 // Whether a value has just the bytes of a pattern, one after another.
+#[tactic(auto, using(crate::proofs::SetLaws::fit_on, crate::proofs::SetLaws::fit_off, crate::proofs::SetLaws::fit_done, crate::proofs::SetLaws::fit_long))]
 pub fn fits(v: &[u8], pattern: &[u8]) -> bool
     ensures { result ≡ shape (sets pattern.now) v.now }
 {
     if v.len() != pattern.len() {
         return false;
     }
-    let mut i = 0;
-    while i < v.len() {
-        if in_set(pattern[i], v[i]) {
-            i += 1;
-        } else {
+    for (i, b) in v.iter().enumerate() {
+        if !in_set(pattern[i], *b) {
             return false;
         }
     }

@@ -18,19 +18,13 @@ const INPUT: usize = 65536;
 fn element_of(name: &[u8]) -> u8
     ensures { result < 10 }
 {
-    let a = child(10, name);
-    if a > 0 {
-        return a;
+    for parent in [10, 1, 5, 6] {
+        let element = child(parent, name);
+        if element > 0 {
+            return element;
+        }
     }
-    let b = child(1, name);
-    if b > 0 {
-        return b;
-    }
-    let c = child(5, name);
-    if c > 0 {
-        return c;
-    }
-    child(6, name)
+    0
 }
 
 // One answer.

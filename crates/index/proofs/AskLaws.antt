@@ -1,7 +1,8 @@
 -- AskLaws: the rows that records show, tested against pairs one by one; and the pairs of a number, which stand together in an index.
 -- Assumes nothing.
+use Rattle.std.specs.Prelude.{Ok, Err, Some}
 use mathlib.Core.Path.{◌≡◌, refl, sym, ap, ◌∙◌, subst}
-use mathlib.Core.Bool.{Bool, true, false, ◌&&◌, ◌||◌}
+use mathlib.Core.Bool.{Bool, true, false, not, ◌&&◌, ◌||◌}
 use mathlib.Core.List.{List, [], ◌∷◌}
 use Prim.Native.Nat.{ℕ, zero, suc, ◌+◌, ◌-◌, ◌*◌, ◌≤◌, ◌<◌}
 use native.Mathlib.Nat.{not-suc-le-zero, le_of_suc-le-suc}
@@ -10,21 +11,22 @@ use native.Mathlib.Omega.{arith}
 use lib.Dec.{eqb, leb, ltb}
 use lib.ListN.{length, take, drop, get_or, drop_of_length-le}
 use lib.Seq.{get_or-drop, drop-drop}
-use borrow.Author.Tests.{eqb-true, eqb-false, eq-eqb, ne_eqb, ltb-true, ltb-false, le-ltb, lt-ltb, leb-true, le-leb, lt-leb}
+use borrow.Author.Tests.{eqb-true, eqb-false, eq-eqb, ne_eqb, ltb-true, ltb-false, le-ltb, lt-ltb, leb-true, leb-false, le-leb, lt-leb}
 use Rattle.paper.specs.Lists.{if, every}
 use Rattle.paper.specs.Plan.{Row}
 use Rattle.paper.specs.Index.{number_of, holds, held_from, held_at, Pair, pair, before, ascending, pairs_from, index_of, same_pairs, holders, bad_call, stale, absent, reply_of, asked, kth, none, row}
 use Rattle.paper.specs.Calls.{row_room}
 use Rattle.paper.proofs.Small.{no, both}
-use Rattle.paper.proofs.Indexed.{rows_with, as_many, not_more, index, rows_there, before_trans, by_tests, rows_with_lem}
+use Rattle.paper.proofs.Indexed.{same_pairs_lem, rows_with, as_many, not_more, index, rows_there, before_trans, by_tests, rows_with_lem}
 use Rattle.room.specs.Laid.{laid}
 use Rattle.plan.specs.Numbers.{rows_lent, record_at, show_row, show_rows}
 use Rattle.plan.proofs.Records.{records_behind}
 use Rattle.plan.proofs.Shown.{rows_shown, row_next}
 use Rattle.index.specs.Pairs.{pairs_lent, pair_at, pairs_in, in_place, rows_in, ahead, rows_of}
-use Rattle.index.specs.Answers.{Stand, rows_fit, replied, replied_into, reply_told, kth_told, nth_told, list_after}
-use Rattle.index.specs.declared.answer.Reply.TheVariants.{Held}
+use Rattle.index.specs.Answers.{Stand, Finds, rows_fit, replied, replied_into, reply_told, kth_told, nth_told, list_after}
 use Rattle.index.specs.declared.answer.Nth.TheVariants as N
+use Rattle.index.specs.declared.answer.Refusal.{Refusal}
+use Rattle.index.specs.declared.answer.Refusal.TheVariants.{NoRoom, OtherIndex}
 use Rattle.index.proofs.PairLaws.{pairs_long, pairs_from_lem, pairs_first, ahead_within}
 
 -- ---- the rows that records show
@@ -48,14 +50,14 @@ unfolding rows_in
 next n i rows h = row_next [] n rows i h ∙ ap (λ (k : ℕ). row_at rows i ∷ drop k (rows_in n rows)) (add-one i)
 
 -- behind the last there is none
-pub none_behind : (n : ℕ) (rows : List ℕ) → 0 ≡ numbers_from n n rows
-none_behind n rows = rw (drop_of_length-le (rows_in n rows) {i = n} (omega (arith, rows_long n rows)))
+pub none_behind : (n i : ℕ) (rows : List ℕ) → n ≤ i → numbers_from i n rows ≡ 0
+none_behind n i rows h = rw (drop_of_length-le (rows_in n rows) {i = i} (omega (arith, rows_long n rows)))
 
-pub one_without : (n i : ℕ) (rows : List ℕ) → i < n → number_of (row_at rows i) ≡ 0 → numbers_from i n rows ≡ numbers_from (suc i) n rows
-one_without n i rows h e = rw (next n i rows h, eq-eqb (number_of (row_at rows i)) 0 e)
+pub one_without : (n i : ℕ) (rows : List ℕ) → i < n → number_of (row_at rows i) ≡ 0 → numbers_from i n rows ≡ numbers_from (i + 1) n rows
+one_without n i rows h e = rw (add-one i, next n i rows h, eq-eqb (number_of (row_at rows i)) 0 e)
 
-pub one_with : (n i : ℕ) (rows : List ℕ) → i < n → (number_of (row_at rows i) ≡ 0 → ⊥) → numbers_from i n rows ≡ suc (numbers_from (suc i) n rows)
-one_with n i rows h e = rw (next n i rows h, ne_eqb (number_of (row_at rows i)) 0 e)
+pub one_with : (n i : ℕ) (rows : List ℕ) → i < n → (number_of (row_at rows i) ≡ 0 → ⊥) → numbers_from i n rows ≡ suc (numbers_from (i + 1) n rows)
+one_with n i rows h e = rw (add-one i, next n i rows h, ne_eqb (number_of (row_at rows i)) 0 e)
 
 -- ---- a number that a row holds
 
@@ -68,17 +70,17 @@ or_no true = refl
 or_no false = refl
 
 -- 0 is no number
-pub none_zero : (j : ℕ) (rs : List Row) (n i : ℕ) → n ≡ 0 → held_from j rs n i ≡ false
+none_zero : (j : ℕ) (rs : List Row) (n i : ℕ) → n ≡ 0 → held_from j rs n i ≡ false
 none_zero j [] n i e = refl
 none_zero j (r ∷ rs) n i e = rw (eq-eqb n 0 e, and_no (eqb i j)) (none_zero (suc j) rs n i e)
 
 -- a row before the first
-pub none_before : (j : ℕ) (rs : List Row) (n i : ℕ) → i < j → held_from j rs n i ≡ false
+none_before : (j : ℕ) (rs : List Row) (n i : ℕ) → i < j → held_from j rs n i ≡ false
 none_before j [] n i h = refl
 none_before j (r ∷ rs) n i h = rw (ne_eqb i j (λ e. omega arith)) (none_before (suc j) rs n i (omega arith))
 
 -- a row behind the last
-pub none_past : (j : ℕ) (rs : List Row) (n i : ℕ) → j + length rs ≤ i → held_from j rs n i ≡ false
+none_past : (j : ℕ) (rs : List Row) (n i : ℕ) → j + length rs ≤ i → held_from j rs n i ≡ false
 none_past j [] n i h = refl
 none_past j (r ∷ rs) n i h = rw (ne_eqb i j (λ e. omega arith)) (none_past (suc j) rs n i (omega arith))
 
@@ -92,11 +94,21 @@ shown_holds j (suc n) rows m (suc i) h =
     rw (ne_eqb (j + suc i) j (λ q. omega arith), e, shown_holds (suc j) n (drop 48 rows) m i (le_of_suc-le-suc h), records_behind i rows)
 
 -- a number is held by the row that has it
-pub held_there : (n : ℕ) (rows : List ℕ) (m i : ℕ) → (m ≡ 0 → ⊥) → 1 ≤ i → i ≤ n → held_at (rows_in n rows) m i ≡ eqb (number_of (row_at rows (i - 1))) m
+held_there : (n : ℕ) (rows : List ℕ) (m i : ℕ) → (m ≡ 0 → ⊥) → 1 ≤ i → i ≤ n → held_at (rows_in n rows) m i ≡ eqb (number_of (row_at rows (i - 1))) m
 unfolding rows_in
 held_there n rows m i z a b =
     let e : i ≡ 1 + (i - 1) = omega arith in
     ap (λ (k : ℕ). held_at (show_rows [] n rows) m k) e ∙ shown_holds 1 n rows m (i - 1) (omega arith) ∙ rw (ne_eqb m 0 z)
+
+-- so what is tested of a row decides
+pub held_by : (n : ℕ) (rows : List ℕ) (m i : ℕ) → held_at (rows_in n rows) m i ≡ (not (eqb m 0) && (leb 1 i && (leb i n && eqb (number_of (row_at rows (i - 1))) m)))
+held_by n rows m i = at (eqb m 0) refl (leb 1 i) refl (leb i n) refl
+  where
+    at : (a : Bool) → eqb m 0 ≡ a → (b : Bool) → leb 1 i ≡ b → (c : Bool) → leb i n ≡ c → held_at (rows_in n rows) m i ≡ (not a && (b && (c && eqb (number_of (row_at rows (i - 1))) m)))
+    at true e b f c g = none_zero 1 (rows_in n rows) m i (eqb-true m 0 e)
+    at false e false f c g = none_before 1 (rows_in n rows) m i (leb-false 1 i f)
+    at false e true f false g = none_past 1 (rows_in n rows) m i (omega (arith, leb-false i n g, rows_long n rows))
+    at false e true f true g = held_there n rows m i (eqb-false m 0 e) (leb-true 1 i f) (leb-true i n g)
 
 -- ---- the test of pairs, one by one
 
@@ -414,16 +426,38 @@ module _ (rows : List ℕ) (count : ℕ) (s : List ℕ) (len n : ℕ) where
     unfolding asked
     this_index z = well_made ∙ ap (λ (b : Bool). if b (reply_of (holders n (rows_in count rows))) stale) z
 
+-- they are, so that they can be searched
+module _ (rows : List ℕ) (count : ℕ) (s : List ℕ) (len n : ℕ) (e : rows_fit rows count ≡ true) (h : len ≤ pairs_lent (length s)) (z : same_pairs (pairs_in len s) (index_of (rows_in count rows)) ≡ true) where
+  lent : 2 * len ≤ length s
+  lent = omega arith
+
+  same : pairs_in len s ≡ index_of (rows_in count rows)
+  same = same_pairs_lem (pairs_in len s) (index_of (rows_in count rows)) z
+
+  few : length (rows_in count rows) ≤ 256
+  few = let k = leb-true count row_room (both (leb count row_room) (leb count (rows_lent (length rows))) e).0 in omega (arith, rows_long count rows)
+
+  pub searched : (2 * len ≤ length s) × (ascending (pairs_in len s) ≡ true)
+  searched = (lent, ap ascending same ∙ (index (rows_in count rows)).in_order)
+
+  pub in_turn_there : ahead (pair n 0) (pairs_in len s) ≤ ahead (pair n 257) (pairs_in len s)
+  in_turn_there = in_turn (rows_in count rows) s len n few lent same
+
+  -- the rows that hold the number stand between the two places
+  pub found_there : (at end : ℕ) → at ≡ ahead (pair n 0) (pairs_in len s) → end ≡ ahead (pair n 257) (pairs_in len s)
+      → (is : List ℕ) × ((replied rows count s len n ≡ reply_of is) × Stand s is at (end - at))
+  found_there at end u v = (holders n (rows_in count rows), (this_index rows count s len n e h z, rows_stand (rows_in count rows) s len n few lent same at end u v))
+
 -- what is answered where rows hold the number, and where none does
 pub told_none : (is : List ℕ) → length is ≡ 0 → reply_of is ≡ absent
 told_none [] e = refl
 told_none (i ∷ is) e = absurd (omega arith)
 
-pub told_first : (is : List ℕ) (k : ℕ) → length is ≡ k → (k ≡ 0 → ⊥) → reply_told (reply_of is) ≡ Held (get_or is 0 0) k
+pub told_first : (is : List ℕ) (k : ℕ) → length is ≡ k → (k ≡ 0 → ⊥) → reply_told (reply_of is) ≡ Ok (Some (record { first = get_or is 0 0; count = k }))
 told_first [] k e h = absurd (h (sym e))
-told_first (i ∷ is) k e h = ap (Held i) e
+told_first (i ∷ is) k e h = ap (λ (n : ℕ). Ok (Some (record { first = i; count = n }))) e
 
-pub told_nth : (is : List ℕ) (k : ℕ) → (length is ≡ 0 → ⊥) → nth_told k (reply_of is) ≡ kth_told (kth k is)
+pub told_nth : (is : List ℕ) (k : ℕ) → (length is ≡ 0 → ⊥) → nth_told k (reply_of is) ≡ Ok (kth_told (kth k is))
 told_nth [] k h = absurd (h refl)
 told_nth (i ∷ is) k h = refl
 
@@ -451,3 +485,9 @@ module _ (list rows : List ℕ) (count : ℕ) (s : List ℕ) (len n : ℕ) where
   pub list_fits : 256 ≤ length list → replied_into list rows count s len n ≡ replied rows count s len n
   unfolding replied_into
   list_fits h = ap (λ (b : Bool). if b (replied rows count s len n) bad_call) (le-leb 256 (length list) h)
+
+  -- what is refused of the index is refused with the list
+  pub list_refused : (x : Refusal) → 256 ≤ length list → Finds (Err x) (replied rows count s len n) s
+      → (Err x ≡ reply_told (replied_into list rows count s len n)) × (list ≡ list_after (replied_into list rows count s len n) list)
+  list_refused NoRoom h f = let e = list_fits h ∙ f in (sym (ap reply_told e), sym (ap (λ a. list_after a list) e))
+  list_refused OtherIndex h f = let e = list_fits h ∙ f in (sym (ap reply_told e), sym (ap (λ a. list_after a list) e))

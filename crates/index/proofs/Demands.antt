@@ -1,5 +1,6 @@
 -- Demands: what the customer asks of the index, as theorems about what the functions give: of any results that meet their promises.
 -- Assumes nothing.
+use Rattle.std.specs.Prelude.{Result, Ok, Err}
 use mathlib.Core.Path.{◌≡◌, refl, sym, ap, ◌∙◌, subst}
 use mathlib.Core.Bool.{Bool, true, false}
 use mathlib.Core.List.{List, [], ◌∷◌, map}
@@ -22,9 +23,11 @@ use Rattle.collector.specs.declared.store.Collector.{Collector}
 use Rattle.collector.specs.Keeping.{collected}
 use Rattle.index.specs.Pairs.{pairs_lent, pairs_in, flat, rows_in}
 use Rattle.index.specs.Answers.{fits_build, built_of, index_after, replied}
-use Rattle.index.specs.Promise.{Promised, with_room, answered, collected_with}
-use Rattle.index.specs.declared.answer.Built.TheVariants.{Pairs, NoRoom}
+use Rattle.index.specs.Promise.{Promised, with_room, pairs_told, index_after as after, answered, collected_with}
+use Rattle.index.specs.declared.answer.Refusal as Asked
+use Rattle.index.specs.declared.answer.Refusal.TheVariants.{NoRoom}
 use Rattle.index.specs.declared.reading.Indexed.{Indexed}
+use Rattle.reader.specs.declared.answer.Refusal.{Refusal}
 use Rattle.index.proofs.PairLaws.{flat_long, flat_shows}
 use Rattle.index.proofs.ReadLaws.{same_pairs_from, same_holders_from, index_laid, holders_laid, Few, few_call, few_collected}
 
@@ -69,7 +72,7 @@ right_index rows count index len n h k m e =
 -- ---- built, then asked
 
 -- what `build` laid out can be asked as it is
-pub built_asked : (rows : List ℕ) (count : ℕ) (index index' : List ℕ) (pairs n : ℕ) → Pairs pairs ≡ built_of rows count index → index' ≡ index_after rows count index
+pub built_asked : (rows : List ℕ) (count : ℕ) (index index' : List ℕ) (pairs n : ℕ) → Ok pairs ≡ built_of rows count index → index' ≡ index_after rows count index
     → replied rows count index' pairs n ≡ reply_of (holders n (rows_in count rows))
 unfolding built_of index_after
 built_asked rows count index index' pairs n e f = at (fits_build rows count index) refl e f
@@ -77,7 +80,7 @@ built_asked rows count index index' pairs n e f = at (fits_build rows count inde
     l : List Pair
     l = index_of (rows_in count rows)
 
-    at : (b : Bool) → fits_build rows count index ≡ b → Pairs pairs ≡ if b (Pairs (length l)) NoRoom → index' ≡ if b (laid index 0 (flat l)) index
+    at : (b : Bool) → fits_build rows count index ≡ b → ◌≡◌ {A = Result ℕ Asked.Refusal} (Ok pairs) (if b (Ok (length l)) (Err NoRoom)) → index' ≡ if b (laid index 0 (flat l)) index
         → replied rows count index' pairs n ≡ reply_of (holders n (rows_in count rows))
     at true q e f =
         let (h, r) = both (leb count 256) _ q in
@@ -108,20 +111,29 @@ with_room_lem index a p = at (leb pair_room (pairs_lent (length index)))
     at true e = e
     at false e = unequal (cc)
 
--- whatever was read, by a call or from a collector
-given_asked : (a : Paper.Answer) (p : Said.Plan) (rows text index : List ℕ) (x : Indexed) (rows' text' index' : List ℕ) (n : ℕ) → Few a rows → with_room index a ≡ Paper.plan p
-    → Promised (with_room index a) rows text index x rows' text' index' → replied rows' x.reading.plan.rows index' x.pairs n ≡ reply_of (holders n p.rows)
-given_asked a p rows text index x rows' text' index' n few e given =
-    let P = subst (λ (b : Paper.Answer). Promised b rows text index x rows' text' index') e given in
+-- whatever was read, by a call or from a collector: a plan was given, and can be asked as it is
+abbrev Asks : List ℕ → List ℕ → ℕ → Said.Plan → Result Indexed Refusal → Type 0
+Asks rows' index' n p r = (x : Indexed) × (r ≡ Ok x) × (replied rows' x.plan.rows index' x.pairs n ≡ reply_of (holders n p.rows))
+
+given_asked : (a : Paper.Answer) (p : Said.Plan) (rows text index : List ℕ) (r : Result Indexed Refusal) (rows' text' index' : List ℕ) (n : ℕ) → Few a rows → with_room index a ≡ Paper.plan p
+    → Promised (with_room index a) rows text index r rows' text' index' → Asks rows' index' n p r
+given_asked a p rows text index (Err x) rows' text' index' n few e P = let f = sym P.refused_is.answer_is ∙ e in unequal (cc)
+given_asked a p rows text index (Ok x) rows' text' index' n few e P =
+    let R = P.reading_is in
+    let same : R.plan ≡ p = cc (R.answer_is) in
     let (small, lent) = subst (λ (b : Paper.Answer). Few b rows) (with_room_lem index a p e) few in
-    rw (P.reading_is.plan_is, P.reading_is.rows_are, P.pairs_are, P.index_is) (laid_asked p rows index n small)
+    let pairs : x.pairs ≡ length (index_of p.rows) = P.pairs_are ∙ ap pairs_told e in
+    let room : index' ≡ laid index 0 (flat (index_of p.rows)) = P.index_is ∙ ap (λ (b : Paper.Answer). after b index) e in
+    let numbers : x.plan.rows ≡ length p.rows = rw (R.plan_is, same) in
+    let records : rows' ≡ laid rows 0 (plan_rows p) = R.rows_are ∙ ap (λ (s : Said.Plan). laid rows 0 (plan_rows s)) same in
+    (x, refl, rw (numbers, records, pairs, room) (laid_asked p rows index n small))
 
 -- what `read` gave for a plan can be asked as it is: no question about it is refused, and each is answered with the rows of the plan that hold the number
-pub read_asked : (rows text index b ss ns : List ℕ) (p : Said.Plan) (x : Indexed) (rows' text' index' : List ℕ) (n : ℕ) → answered rows text index b ss ns ≡ Paper.plan p
-    → Promised (answered rows text index b ss ns) rows text index x rows' text' index' → replied rows' x.reading.plan.rows index' x.pairs n ≡ reply_of (holders n p.rows)
-read_asked rows text index b ss ns p x rows' text' index' n = given_asked (Reader.answered rows text b ss ns) p rows text index x rows' text' index' n (few_call rows text b ss ns)
+pub read_asked : (rows text index b ss ns : List ℕ) (p : Said.Plan) (r : Result Indexed Refusal) (rows' text' index' : List ℕ) (n : ℕ) → answered rows text index b ss ns ≡ Paper.plan p
+    → Promised (answered rows text index b ss ns) rows text index r rows' text' index' → (x : Indexed) × (r ≡ Ok x) × (replied rows' x.plan.rows index' x.pairs n ≡ reply_of (holders n p.rows))
+read_asked rows text index b ss ns p r rows' text' index' n = given_asked (Reader.answered rows text b ss ns) p rows text index r rows' text' index' n (few_call rows text b ss ns)
 
 -- and so what `read_collected` gave
-pub collected_asked : (rows text index : List ℕ) (c : Collector) (p : Said.Plan) (x : Indexed) (rows' text' index' : List ℕ) (n : ℕ) → collected_with rows text index c ≡ Paper.plan p
-    → Promised (collected_with rows text index c) rows text index x rows' text' index' → replied rows' x.reading.plan.rows index' x.pairs n ≡ reply_of (holders n p.rows)
-collected_asked rows text index c p x rows' text' index' n = given_asked (collected rows text c) p rows text index x rows' text' index' n (few_collected rows text c)
+pub collected_asked : (rows text index : List ℕ) (c : Collector) (p : Said.Plan) (r : Result Indexed Refusal) (rows' text' index' : List ℕ) (n : ℕ) → collected_with rows text index c ≡ Paper.plan p
+    → Promised (collected_with rows text index c) rows text index r rows' text' index' → (x : Indexed) × (r ≡ Ok x) × (replied rows' x.plan.rows index' x.pairs n ≡ reply_of (holders n p.rows))
+collected_asked rows text index c p r rows' text' index' n = given_asked (collected rows text c) p rows text index r rows' text' index' n (few_collected rows text c)

@@ -26,12 +26,14 @@ use Rattle.plan.specs.Numbers.{kind_shown, kind_number, rows_lent, show_row, sho
 use Rattle.plan.proofs.Spans.{record_size}
 use Rattle.plan.proofs.Shown.{rows_size}
 use Rattle.reader.specs.Promise as Reader
-use Rattle.reader.specs.declared.reading.Reading.{Reading}
+use Rattle.plan.specs.declared.Plan.{Plan}
+use Rattle.reader.specs.declared.answer.Refusal.{Refusal}
+use Rattle.reader.specs.declared.answer.Refusal.TheVariants.{NoRoom}
 use Rattle.collector.specs.declared.store.Collector.{Collector}
 use Rattle.collector.specs.Keeping.{collected, read_of, missing, pages_of}
 use Rattle.reader.specs.Pages.{first_of}
 use Rattle.index.specs.Pairs.{pairs_lent, flat, rows_in}
-use Rattle.index.specs.Promise.{Promised, with_room, pairs_told, index_after, no_room}
+use Rattle.index.specs.Promise.{Refuses, Reads, with_room, pairs_told, index_after}
 use Rattle.index.specs.declared.reading.Indexed.{Indexed}
 
 -- ---- rows laid out
@@ -102,11 +104,6 @@ pub holders_laid : (n : ℕ) (p : Said.Plan) (rows : List ℕ) → holders n (ro
 unfolding holders
 holders_laid n p rows = same_holders_from 1 n (rows_in (length p.rows) (laid rows 0 (plan_rows p))) p.rows (shown_laid p rows)
 
--- no rows have no index
-no_rows : (rows : List ℕ) → index_of (rows_in 0 rows) ≡ []
-unfolding rows_in index_of
-no_rows rows = refl
-
 -- ---- what reading leaves is what the index is built for
 
 -- a plan has not more than 256 rows, and room for so many is lent
@@ -144,14 +141,14 @@ few_collected rows text c = few_if (roomy (rows_lent (length rows)) (length text
     at zero h = few_read (pages_of c) rows h
     at (suc n) h = tt
 
--- so what is asked of the rows is so, whatever was answered
-rows_asked : (a : Paper.Answer) (rows text : List ℕ) (r : Reading) (rows' text' : List ℕ) → Few a rows → Reader.Promised a rows text r rows' text'
-    → (r.plan.rows ≤ 256) × (r.plan.rows * 48 ≤ length rows')
-rows_asked (Paper.refusal n k i) rows text r rows' text' f e = rw e.plan_is (omega arith, omega arith)
-rows_asked (Paper.plan p) rows text r rows' text' f e =
+-- so what is asked of the rows of a plan is so
+rows_asked : (a : Paper.Answer) (rows text : List ℕ) (q : Plan) (rows' text' : List ℕ) → Few a rows → Reader.Reads a q rows text rows' text' → (q.rows ≤ 256) × (q.rows * 48 ≤ length rows')
+rows_asked a rows text q rows' text' f e =
+    let p = e.plan in
+    let few = subst (λ (b : Paper.Answer). Few b rows) e.answer_is f in
     let long : length (laid rows 0 (plan_rows p)) ≡ length (plan_rows p) + length (drop (0 + length (plan_rows p)) rows) = length-append (plan_rows p) _ in
     let size : length (plan_rows p) ≡ length p.rows * 48 = rows_size _ p.rows in
-    rw (e.plan_is, e.rows_are) (f.0, omega (arith, long, size))
+    rw (e.plan_is, e.rows_are) (few.0, omega (arith, long, size))
 
 -- ---- what is promised
 
@@ -160,39 +157,44 @@ enough : (index : List ℕ) (a : Paper.Answer) → true ≡ leb pair_room (pairs
 enough index a e = let h = leb-true 256 (pairs_lent (length index)) (sym e) in (ap (λ (b : Bool). if b a (Paper.refusal 1 0 0)) (sym e), omega arith)
 
 -- it is too small
-pub too_small : (rows text index : List ℕ) (a : Paper.Answer) (x : Indexed) → false ≡ leb pair_room (pairs_lent (length index)) → x ≡ no_room → Promised (with_room index a) rows text index x rows text index
-too_small rows text index a x e n = rw (sym e, n) (record {
-  reading_is = record { answer_is = refl; plan_is = refl; rows_are = refl; text_is = refl };
-  pairs_are = refl;
+pub too_small : (rows text index : List ℕ) (a : Paper.Answer) → false ≡ leb pair_room (pairs_lent (length index)) → Refuses (with_room index a) NoRoom rows text index rows text index
+too_small rows text index a e = rw (sym e) (record {
+  refused_is = record { answer_is = refl; rows_are = refl; text_is = refl };
   index_is = refl;
 })
 
+-- reading refuses
+pub refuses : (a : Paper.Answer) (x : Refusal) (rows text index rows' text' : List ℕ) → true ≡ leb pair_room (pairs_lent (length index)) → Reader.Refuses a x rows text rows' text'
+    → Refuses (with_room index a) x rows text index rows' text' index
+refuses a x rows text index rows' text' h e = record {
+  refused_is = record { answer_is = (enough index a h).0 ∙ e.answer_is; rows_are = e.rows_are; text_is = e.text_is };
+  index_is = refl;
+}
+
 -- the index of what was read
-pub indexed : (a : Paper.Answer) (rows text index : List ℕ) (r : Reading) (rows' text' : List ℕ) (x : Indexed) (index' : List ℕ) → true ≡ leb pair_room (pairs_lent (length index))
-    → Reader.Promised a rows text r rows' text' → x.reading ≡ r → x.pairs ≡ length (index_of (rows_in r.plan.rows rows')) → index' ≡ laid index 0 (flat (index_of (rows_in r.plan.rows rows')))
-    → Promised (with_room index a) rows text index x rows' text' index'
-indexed a rows text index r rows' text' x index' h e same many is =
-    subst (λ (b : Paper.Answer). Promised b rows text index x rows' text' index') (sym (enough index a h).0) (record {
-      reading_is = subst (λ (y : Reading). Reader.Promised a rows text y rows' text') (sym same) e;
-      pairs_are = many ∙ (told a e).0;
-      index_is = is ∙ (told a e).1;
-    })
-  where
-    told : (b : Paper.Answer) → Reader.Promised b rows text r rows' text'
-        → (length (index_of (rows_in r.plan.rows rows')) ≡ pairs_told b) × (laid index 0 (flat (index_of (rows_in r.plan.rows rows'))) ≡ index_after b index)
-    told (Paper.refusal n k i) q = rw q.plan_is (ap length (no_rows rows'), ap (λ (l : List Pair). laid index 0 (flat l)) (no_rows rows'))
-    told (Paper.plan p) q = rw (q.plan_is, q.rows_are) (ap length (index_laid p rows), ap (λ (l : List Pair). laid index 0 (flat l)) (index_laid p rows))
+pub indexed : (a : Paper.Answer) (rows text index : List ℕ) (q : Plan) (rows' text' : List ℕ) (x : Indexed) (index' : List ℕ) → true ≡ leb pair_room (pairs_lent (length index))
+    → Reader.Reads a q rows text rows' text' → x.plan ≡ q → x.pairs ≡ length (index_of (rows_in q.rows rows')) → index' ≡ laid index 0 (flat (index_of (rows_in q.rows rows')))
+    → Reads (with_room index a) x rows text index rows' text' index'
+indexed a rows text index q rows' text' x index' h e same many is =
+    let p = e.plan in
+    let told : with_room index a ≡ Paper.plan p = (enough index a h).0 ∙ e.answer_is in
+    let of_plan : index_of (rows_in q.rows rows') ≡ index_of p.rows = rw (e.plan_is, e.rows_are) (index_laid p rows) in
+    record {
+      reading_is = record { plan = p; answer_is = told; plan_is = same ∙ e.plan_is; rows_are = e.rows_are; text_is = e.text_is };
+      pairs_are = many ∙ ap length of_plan ∙ sym (ap pairs_told told);
+      index_is = is ∙ ap (λ (l : List Pair). laid index 0 (flat l)) of_plan ∙ sym (ap (λ (b : Paper.Answer). index_after b index) told);
+    }
 
 -- what is asked of reading's rows and of the room, for pages handed in
-pub call_asked : (rows text index b ss ns : List ℕ) (r : Reading) (rows' text' : List ℕ) → true ≡ leb pair_room (pairs_lent (length index))
-    → Reader.Promised (Reader.answered rows text b ss ns) rows text r rows' text' → (r.plan.rows ≤ 256) × (r.plan.rows * 48 ≤ length rows') × (512 ≤ length index)
-call_asked rows text index b ss ns r rows' text' h e =
-    let (few, lent) = rows_asked (Reader.answered rows text b ss ns) rows text r rows' text' (few_call rows text b ss ns) e in
+pub call_asked : (rows text index b ss ns : List ℕ) (q : Plan) (rows' text' : List ℕ) → true ≡ leb pair_room (pairs_lent (length index))
+    → Reader.Reads (Reader.answered rows text b ss ns) q rows text rows' text' → (q.rows ≤ 256) × (q.rows * 48 ≤ length rows') × (512 ≤ length index)
+call_asked rows text index b ss ns q rows' text' h e =
+    let (few, lent) = rows_asked (Reader.answered rows text b ss ns) rows text q rows' text' (few_call rows text b ss ns) e in
     (few, lent, (enough index (Paper.refusal 1 0 0) h).1)
 
 -- and for a collector's
-pub collected_asked : (rows text index : List ℕ) (c : Collector) (r : Reading) (rows' text' : List ℕ) → true ≡ leb pair_room (pairs_lent (length index))
-    → Reader.Promised (collected rows text c) rows text r rows' text' → (r.plan.rows ≤ 256) × (r.plan.rows * 48 ≤ length rows') × (512 ≤ length index)
-collected_asked rows text index c r rows' text' h e =
-    let (few, lent) = rows_asked (collected rows text c) rows text r rows' text' (few_collected rows text c) e in
+pub collected_asked : (rows text index : List ℕ) (c : Collector) (q : Plan) (rows' text' : List ℕ) → true ≡ leb pair_room (pairs_lent (length index))
+    → Reader.Reads (collected rows text c) q rows text rows' text' → (q.rows ≤ 256) × (q.rows * 48 ≤ length rows') × (512 ≤ length index)
+collected_asked rows text index c q rows' text' h e =
+    let (few, lent) = rows_asked (collected rows text c) rows text q rows' text' (few_collected rows text c) e in
     (few, lent, (enough index (Paper.refusal 1 0 0) h).1)

@@ -1,6 +1,6 @@
 -- Promise: what reading with the index promises for any call: all that reading promises, and the index of the plan's rows.
 -- Assumes nothing.
-use Rattle.std.specs.Prelude.{◌≡◌, List, ℕ, leb, length}
+use Rattle.std.specs.Prelude.{◌≡◌, List, ℕ, leb, length, Result, MatchResult}
 use Rattle.paper.specs.Lists.{if}
 use Rattle.paper.specs.Reading as Paper
 use Rattle.paper.specs.Index.{index_of, pair_room}
@@ -9,8 +9,7 @@ use Rattle.reader.specs.Promise as Reader
 use Rattle.collector.specs.declared.store.Collector.{Collector}
 use Rattle.collector.specs.Keeping.{collected}
 use Rattle.index.specs.Pairs.{pairs_lent, flat}
-use Rattle.plan.specs.Records.{empty_plan}
-use Rattle.reader.specs.declared.answer.Answer.TheVariants.{NoRoom}
+use Rattle.reader.specs.declared.answer.Refusal.{Refusal}
 use Rattle.index.specs.declared.reading.Indexed.{Indexed}
 
 -- how many pairs are told: a refusal has none
@@ -23,11 +22,20 @@ abbrev pub index_after : Paper.Answer → List ℕ → List ℕ
 index_after (Paper.refusal n k i) index = index
 index_after (Paper.plan p) index = laid index 0 (flat (index_of p.rows))
 
--- what is promised where the documents answer so: of the rooms as lent, the result, and the rooms as handed back
-pub record Promised (a : Paper.Answer) (rows text index : List ℕ) (r : Indexed) (rows' text' index' : List ℕ) : Type 0 where
-  pub reading_is : Reader.Promised a rows text r.reading rows' text'
-  pub pairs_are : r.pairs ≡ pairs_told a
+-- a refusal: as reading refuses, and the room for the index is as it was
+pub record Refuses (a : Paper.Answer) (x : Refusal) (rows text index rows' text' index' : List ℕ) : Type 0 where
+  pub refused_is : Reader.Refuses a x rows text rows' text'
+  pub index_is : index' ≡ index
+
+-- a plan: as reading gives it, with the number of pairs that its index has, and the room begins with the index
+pub record Reads (a : Paper.Answer) (x : Indexed) (rows text index rows' text' index' : List ℕ) : Type 0 where
+  pub reading_is : Reader.Reads a x.plan rows text rows' text'
+  pub pairs_are : x.pairs ≡ pairs_told a
   pub index_is : index' ≡ index_after a index
+
+-- what is promised where the documents answer so: of the rooms as lent, the result, and the rooms as handed back
+abbrev pub Promised : Paper.Answer → List ℕ → List ℕ → List ℕ → Result Indexed Refusal → List ℕ → List ℕ → List ℕ → Type 0
+Promised a rows text index r rows' text' index' = MatchResult r (λ x. Reads a x rows text index rows' text' index') (λ x. Refuses a x rows text index rows' text' index')
 
 -- an answer, where the room lent for the index is not too small: "less than its room is 1"
 abbrev pub with_room : List ℕ → Paper.Answer → Paper.Answer
@@ -40,7 +48,3 @@ answered rows text index buffer starts lens = with_room index (Reader.answered r
 -- and for the pages of a collector
 abbrev pub collected_with : List ℕ → List ℕ → List ℕ → Collector → Paper.Answer
 collected_with rows text index c = with_room index (collected rows text c)
-
--- what is given where the room for the index is too small
-abbrev pub no_room : Indexed
-no_room = record { reading = record { answer = NoRoom; plan = empty_plan }; pairs = 0 }

@@ -6,17 +6,16 @@ ghost use Rattle.plan.specs.Numbers.{stride};
 ghost use Rattle.index.specs.Pairs.{pair_at, pairs_in, in_place, rows_in, rows_of};
 ghost use Rattle.index.specs.Answers.{Finds, replied, replied_into, reply_told, nth_told, list_after};
 
-use crate::answer::{Nth, Reply};
+use crate::answer::{Held, Nth, Refusal};
 use crate::build::{number_at, rows_lent};
 use crate::pairs::{ahead_of, comes_before};
 use plan::Plan;
 
-// Where the pairs of a number stand in the index, and how many there are; or the refusal.
-#[derive(Clone, Copy)]
-pub enum Found {
-    NoRoom,
-    OtherIndex,
-    Span { at: usize, count: usize },
+// Where the pairs of a number stand in the index, and how many there are.
+#[derive(Clone, Copy, PartialEq, Eq)]
+pub struct Found {
+    pub at: usize,
+    pub count: usize,
 }
 
 // How many of the first n rows have a package number.
@@ -25,9 +24,7 @@ fn count_numbers(rows: &[u32], n: usize) -> usize
     ensures { result ≡ length (pairs_from 1 (rows_in n rows.now)) }
 {
     let mut count = 0;
-    let mut i = n;
-    while i > 0 {
-        i -= 1;
+    for i in 0..n {
         if number_at(rows, i) != 0 {
             count += 1;
         }
@@ -36,22 +33,14 @@ fn count_numbers(rows: &[u32], n: usize) -> usize
 }
 
 // Whether the row of pair i is one of the first n rows and holds the pair's number.
+#[tactic(auto, using(crate::proofs::AskLaws::held_by))]
 fn row_right(rows: &[u32], n: usize, index: &[u32], i: usize) -> bool
     requires { (n * stride ≤ length rows.now) × (2 * i + 1 < length index.now) }
     ensures { result ≡ held_at (rows_in n rows.now) (pair_at index.now i).number (pair_at index.now i).row }
 {
     let number = index[2 * i];
     let row = index[2 * i + 1] as usize;
-    if number == 0 {
-        return false;
-    }
-    if row < 1 {
-        return false;
-    }
-    if row > n {
-        return false;
-    }
-    number_at(rows, row - 1) == number
+    number != 0 && 1 <= row && row <= n && number_at(rows, row - 1) == number
 }
 
 // Whether pair i comes behind the one before it, if there is one.
@@ -59,10 +48,7 @@ fn in_place(index: &[u32], i: usize) -> bool
     requires { 2 * i + 1 < length index.now }
     ensures { result ≡ in_place index.now i }
 {
-    if i == 0 {
-        return true;
-    }
-    comes_before(index, i - 1, index[2 * i], index[2 * i + 1])
+    i == 0 || comes_before(index, i - 1, index[2 * i], index[2 * i + 1])
 }
 
 // Whether the first `len` pairs are the index of the first n rows: as many as rows have a number, each with the number that its row holds, each behind the one
@@ -74,81 +60,79 @@ pub fn is_index(rows: &[u32], n: usize, index: &[u32], len: usize) -> bool
     if count_numbers(rows, n) != len {
         return false;
     }
-    let mut i = 0;
-    while i < len {
+    for i in 0..len {
         if !row_right(rows, n, index, i) {
             return false;
         }
         if !in_place(index, i) {
             return false;
         }
-        i += 1;
     }
     true
 }
 
 // Finds a number in the index of rows: two searches, for the first pair of the number and for the first one behind them.
-fn find(rows: &[u32], count: u32, index: &[u32], length: u32, number: u32) -> Found
+fn find(rows: &[u32], count: u32, index: &[u32], length: u32, number: u32) -> Result<Found, Refusal>
     ensures { Finds result (replied rows.now count index.now length number) index.now }
 {
     if !rows_lent(rows, count) {
-        return Found::NoRoom;
+        return Err(Refusal::NoRoom);
     }
     let len = length as usize;
     if len > index.len() / 2 {
-        return Found::NoRoom;
+        return Err(Refusal::NoRoom);
     }
     if !is_index(rows, count as usize, index, len) {
-        return Found::OtherIndex;
+        return Err(Refusal::OtherIndex);
     }
     let at = ahead_of(index, len, number, 0);
     let end = ahead_of(index, len, number, Plan::ROWS as u32 + 1);
-    Found::Span {
-        at: at,
+    Ok(Found {
+        at,
         count: end - at,
-    }
+    })
 }
 
-// The first row that holds the number, and how many do. The first `count` rows and the first `length` pairs are asked: 1 where there are not so many rows or
-// pairs, or more rows than a plan has; then 20 where the pairs are not the index of the rows.
-pub fn first(rows: &[u32], count: u32, index: &[u32], length: u32, number: u32) -> Reply
+// The first row that holds the number, and how many do; nothing where the number is not on the plan. The first `count` rows and the first `length` pairs are
+// asked: 1 where there are not so many rows or pairs, or more rows than a plan has; then 20 where the pairs are not the index of the rows.
+pub fn first(
+    rows: &[u32],
+    count: u32,
+    index: &[u32],
+    length: u32,
+    number: u32,
+) -> Result<Option<Held>, Refusal>
     ensures { result ≡ reply_told (replied rows.now count index.now length number) }
 {
-    match find(rows, count, index, length, number) {
-        Found::NoRoom => Reply::NoRoom,
-        Found::OtherIndex => Reply::OtherIndex,
-        Found::Span { at, count } => {
-            if count == 0 {
-                return Reply::Absent;
-            }
-            Reply::Held {
-                first: index[2 * at + 1],
-                count: count as u32,
-            }
-        }
+    let found = find(rows, count, index, length, number)?;
+    if found.count == 0 {
+        return Ok(None);
     }
+    Ok(Some(Held {
+        first: index[2 * found.at + 1],
+        count: found.count as u32,
+    }))
 }
 
 // The k-th of the rows that hold the number, k from 1.
-pub fn nth(rows: &[u32], count: u32, index: &[u32], length: u32, number: u32, k: u32) -> Nth
+pub fn nth(
+    rows: &[u32],
+    count: u32,
+    index: &[u32],
+    length: u32,
+    number: u32,
+    k: u32,
+) -> Result<Nth, Refusal>
     ensures { result ≡ nth_told k (replied rows.now count index.now length number) }
 {
-    match find(rows, count, index, length, number) {
-        Found::NoRoom => Nth::NoRoom,
-        Found::OtherIndex => Nth::OtherIndex,
-        Found::Span { at, count } => {
-            if count == 0 {
-                return Nth::Absent;
-            }
-            if k < 1 {
-                return Nth::None;
-            }
-            if k as usize > count {
-                return Nth::None;
-            }
-            Nth::Row(index[2 * (at + k as usize - 1) + 1])
-        }
+    let found = find(rows, count, index, length, number)?;
+    if found.count == 0 {
+        return Ok(Nth::Absent);
     }
+    if k < 1 || k as usize > found.count {
+        return Ok(Nth::None);
+    }
+    Ok(Nth::Row(index[2 * (found.at + k as usize - 1) + 1]))
 }
 
 // Lays the rows of `count` pairs from pair `at` on at the beginning of the list. Behind them it stays as it was.
@@ -156,10 +140,8 @@ fn lay_rows(index: &[u32], at: usize, count: usize, list: &mut [u32])
     requires { (2 * (at + count) ≤ length index.now) × (count ≤ length list.old) }
     ensures { list.new ≡ laid list.old 0 (rows_of (pairs_in count (drop (2 * at) index.now))) }
 {
-    let mut k = 0;
-    while k < count {
+    for k in 0..count {
         list[k] = index[2 * (at + k) + 1];
-        k += 1;
     }
 }
 
@@ -172,25 +154,20 @@ pub fn all(
     length: u32,
     number: u32,
     list: &mut [u32],
-) -> Reply
+) -> Result<Option<Held>, Refusal>
     ensures { (result ≡ reply_told (replied_into list.old rows.now count index.now length number))
         × (list.new ≡ list_after (replied_into list.old rows.now count index.now length number) list.old) }
 {
     if list.len() < Plan::ROWS {
-        return Reply::NoRoom;
+        return Err(Refusal::NoRoom);
     }
-    match find(rows, count, index, length, number) {
-        Found::NoRoom => Reply::NoRoom,
-        Found::OtherIndex => Reply::OtherIndex,
-        Found::Span { at, count } => {
-            if count == 0 {
-                return Reply::Absent;
-            }
-            lay_rows(index, at, count, list);
-            Reply::Held {
-                first: index[2 * at + 1],
-                count: count as u32,
-            }
-        }
+    let found = find(rows, count, index, length, number)?;
+    if found.count == 0 {
+        return Ok(None);
     }
+    lay_rows(index, found.at, found.count, list);
+    Ok(Some(Held {
+        first: index[2 * found.at + 1],
+        count: found.count as u32,
+    }))
 }

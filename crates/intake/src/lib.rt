@@ -17,10 +17,9 @@ pub fn fill<R: Read>(from: &mut R, room: &mut [u8]) -> io::Result<usize>
 {
     let mut n = 0;
     while n < room.len() {
-        match from.read(&mut room[n..]) {
-            Ok(0) => return Ok(n),
-            Ok(more) => n += more,
-            Err(e) => return Err(e),
+        match from.read(&mut room[n..])? {
+            0 => return Ok(n),
+            more => n += more,
         }
     }
     Ok(n)

@@ -136,8 +136,11 @@ module _ {input starts₀ lens₀ starts lens : List ℕ} {at n : ℕ} (H : Spli
       }
 
 -- ten pages are stored
-pub split_ten : {input starts₀ lens₀ starts lens : List ℕ} {at n : ℕ} → Splitting input starts₀ lens₀ starts lens at n → 10 ≤ n → Split input starts₀ lens₀ starts lens n
-split_ten {input} {n = n} H h = let z : 10 - n ≡ 0 = omega arith in split_end input (told H.starts_laid (rw z)) (told H.lens_laid (rw z))
+pub split_ten : {input starts₀ lens₀ starts lens : List ℕ} {at n : ℕ} → Splitting input starts₀ lens₀ starts lens at n → 10 ≤ n → Split input starts₀ lens₀ starts lens 10
+split_ten {input} {n = n} H h =
+    let z : 10 - n ≡ 0 = omega arith in
+    let s = split_end input (told H.starts_laid (rw z)) (told H.lens_laid (rw z)) in
+    (omega (arith, s.0, H.few), s.1, s.2)
 
 -- ---- what the answer says
 

@@ -33,13 +33,11 @@ pub fn fields(
     ensures { Wrote out.old out.new at result (print (lines_of path.now first count text.now from numbers.now)) }
 {
     let mut a = at;
-    let mut i = 0;
-    while i < count {
+    for i in 0..count {
         let k = from + 2 * i;
         let start = wide(numbers[k]);
         let len = wide(numbers[k + 1]);
         a = field_line(out, a, path, first + i, text, start, len);
-        i += 1;
     }
     a
 }

@@ -18,11 +18,11 @@ pub fn numeral(n: u32, out: &mut [u8], at: usize) -> usize
     ensures { Wrote out.old out.new at result (numeral n) }
 {
     if n < 10 {
-        out[at] = 48 + n as u8;
+        out[at] = b'0' + n as u8;
         return at + 1;
     }
     let a = spell(n / 10, out, at);
-    out[a] = 48 + (n % 10) as u8;
+    out[a] = b'0' + (n % 10) as u8;
     a + 1
 }
 
@@ -32,9 +32,9 @@ pub fn text_line(out: &mut [u8], at: usize, key: &[u8], value: &[u8]) -> usize
     ensures { Wrote out.old out.new at result (print (line key.now value.now ∷ [])) }
 {
     let a = lay(out, at, key);
-    out[a] = 61;
+    out[a] = b'=';
     let b = lay(out, a + 1, value);
-    out[b] = 10;
+    out[b] = b'\n';
     b + 1
 }
 
@@ -44,13 +44,14 @@ pub fn count_line(out: &mut [u8], at: usize, key: &[u8], n: u32) -> usize
     ensures { Wrote out.old out.new at result (print (line key.now (numeral n) ∷ [])) }
 {
     let a = lay(out, at, key);
-    out[a] = 61;
+    out[a] = b'=';
     let b = numeral(n, out, a + 1);
-    out[b] = 10;
+    out[b] = b'\n';
     b + 1
 }
 
 // Writes a line whose value is a number without leading zeros; a number that is 0 is absent and has no line.
+// It stays beside `count_line`, whose digits are all of a number's: what `decimal` promises ends at nine.
 pub fn number_line(out: &mut [u8], at: usize, key: &[u8], n: u32) -> usize
     requires { at + length (print (given key.now (decimal n))) ≤ length out.old }
     ensures { Wrote out.old out.new at result (print (given key.now (decimal n))) }
@@ -59,22 +60,23 @@ pub fn number_line(out: &mut [u8], at: usize, key: &[u8], n: u32) -> usize
         return at;
     }
     let a = lay(out, at, key);
-    out[a] = 61;
+    out[a] = b'=';
     let b = spell(n, out, a + 1);
-    out[b] = 10;
+    out[b] = b'\n';
     b + 1
 }
 
 // Writes the line of a value whose key is a path and the letters of a field, these as a key of the table.
+// It stays beside `text_line`: a function for the end of both lines, with its contract, is no plainer.
 fn letters_line(out: &mut [u8], at: usize, path: &[u8], letters: u64, value: &[u8]) -> usize
     requires { at + length (print (line (path.now ++ name_of letters) value.now ∷ [])) ≤ length out.old }
     ensures { Wrote out.old out.new at result (print (line (path.now ++ name_of letters) value.now ∷ [])) }
 {
     let name = lay(out, at, path);
     let sign = lay_name(letters, out, name);
-    out[sign] = 61;
+    out[sign] = b'=';
     let end = lay(out, sign + 1, value);
-    out[end] = 10;
+    out[end] = b'\n';
     end + 1
 }
 
@@ -96,6 +98,5 @@ pub fn field_line(
     if len == 0 {
         return at;
     }
-    let letters = letters_of(id);
-    letters_line(out, at, path, letters, &text[from..from + len])
+    letters_line(out, at, path, letters_of(id), &text[from..from + len])
 }

@@ -56,8 +56,7 @@ fn medication_row(out: &mut [u8], at: usize, text: &[u8], rows: &[u32], i: usize
     ensures { Wrote out.old out.new at result (print (medication_row text.now rows.now i)) }
 {
     let a = text_line(out, at, b"row", b"M");
-    let p = package_at(rows, i);
-    let b = number_line(out, a, b"MP.S.M.p", p);
+    let b = number_line(out, a, b"MP.S.M.p", package_at(rows, i));
     let c = fields(
         out,
         b,
@@ -78,8 +77,7 @@ pub fn row_lines(out: &mut [u8], at: usize, text: &[u8], rows: &[u32], i: usize)
         × (at + length (print (row_lines (show_row text.now (record_at rows.now i)))) ≤ length out.old) }
     ensures { Wrote out.old out.new at result (print (row_lines (show_row text.now (record_at rows.now i)))) }
 {
-    let kind = kind_at(rows, i);
-    match kind {
+    match kind_at(rows, i) {
         Kind::Heading => plain_row(out, at, b"H", b"MP.S.", S_C, 2, text, rows, i),
         Kind::Medication => medication_row(out, at, text, rows, i),
         Kind::Recipe => plain_row(out, at, b"R", b"MP.S.R.", R_T, 2, text, rows, i),
@@ -96,10 +94,8 @@ pub fn rows_lines(out: &mut [u8], at: usize, text: &[u8], rows: &[u32], n: usize
     ensures { Wrote out.old out.new at result (print (rows_lines (show_rows text.now n rows.now))) }
 {
     let mut a = at;
-    let mut i = 0;
-    while i < n {
+    for i in 0..n {
         a = row_lines(out, a, text, rows, i);
-        i += 1;
     }
     a
 }
@@ -113,9 +109,7 @@ pub fn list_plan(plan: Plan, rows: &[u32], text: &[u8], out: &mut [u8]) -> usize
     ensures { (result ≡ length (listing (show_plan text.now plan rows.now)))
         × (out.new ≡ laid out.old 0 (listing (show_plan text.now plan rows.now))) }
 {
-    let head = plan.head;
-    let n = plan.rows;
-    let a = head_lines(out, 0, plan.patch, head, text);
-    let b = rows_lines(out, a, text, rows, n as usize);
-    count_line(out, b, b"rows", n)
+    let a = head_lines(out, 0, plan.patch, plan.head, text);
+    let b = rows_lines(out, a, text, rows, plan.rows as usize);
+    count_line(out, b, b"rows", plan.rows)
 }

@@ -3,12 +3,12 @@
 use mathlib.Core.Path.{◌≡◌, refl}
 use mathlib.Core.Bool.{Bool, true, false, not}
 use mathlib.Core.List.{List}
-use Prim.Native.Nat.{ℕ, ◌+◌, ◌≤◌, ◌<◌}
+use Prim.Native.Nat.{ℕ, ◌+◌, ◌<◌}
 use native.Mathlib.Nat.{add-zero}
 use native.Mathlib.Numerals.{add-one}
 use native.Mathlib.Omega.{arith}
 use lib.Dec.{eqb, eqb→eq}
-use lib.ListN.{length, get_or, drop, drop_of_length-le}
+use lib.ListN.{length, get_or, drop}
 use lib.Seq.{drop-cons}
 use Rattle.paper.specs.Lists.{if, until}
 use Rattle.paper.specs.Bytes.{refused, space, digit, capital, small, other, is_allowed, is_space, is_digit, is_capital, is_small, class_of, class_number, first_refused}
@@ -57,7 +57,3 @@ hit s i h e = rw (drop-cons s i 0, e, until) (add-zero i)
 -- this byte is allowed
 pub miss : (s : List ℕ) (i : ℕ) → i < length s → is_allowed (get_or s i 0) ≡ true → i + first_refused (drop i s) ≡ i + 1 + first_refused (drop (i + 1) s)
 miss s i h e = rw (add-one, drop-cons s i 0, e, until) (omega arith)
-
--- no byte is left
-pub done : (s : List ℕ) (i : ℕ) → length s ≤ i → i + first_refused (drop i s) ≡ i
-done s i h = rw (drop_of_length-le s h) (add-zero i)

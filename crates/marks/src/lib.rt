@@ -20,12 +20,10 @@ pub fn first_refused(s: &[u8]) -> usize
     ensures { result ≡ first_refused s.now }
 {
     let classes = CLASSES;
-    let mut i = 0;
-    while i < s.len() {
-        if classes[s[i] as usize] == 0 {
+    for (i, b) in s.iter().enumerate() {
+        if classes[*b as usize] == 0 {
             return i;
         }
-        i += 1;
     }
-    i
+    s.len()
 }

@@ -16,8 +16,7 @@ use Rattle.paper.specs.Grammar.{Tag, is_name_byte, is_plain}
 use Rattle.paper.specs.Machine as Mc
 use Rattle.paper.specs.Machine.{InRef, amp0, RefMove, bad, on, over, ref_step, Open, Half, State, Move, up, gap_step, step, ref_goes, more}
 use Rattle.markup.specs.Extent.{extent_by, extent_of}
-use Rattle.markup.specs.declared.scan.Extent.{Extent}
-use Rattle.markup.specs.declared.scan.Extent.TheVariants.{Whole, Good}
+use Rattle.std.specs.Prelude.{Result, Ok, Err}
 
 -- where in a page: paper's states without what they hold; `first` is behind the `<` of the page's element, `less` behind a later one
 pub data Mode : Type 0 where
@@ -176,18 +175,18 @@ is_done (val q) = false
 is_done (ref r q) = false
 
 -- the extent of a page that ends in this state, behind n bytes
-abbrev pub at_end : Ctl → ℕ → Extent
-at_end (ctl m xs ns) n = if (is_done m) Whole (Good n)
+abbrev pub at_end : Ctl → ℕ → Result (Unit {0}) ℕ
+at_end (ctl m xs ns) n = if (is_done m) (Ok tt) (Err n)
 
 -- after a turn
-abbrev pub onward : Option Ctl → Extent → (Ctl → Extent) → Extent
+abbrev pub onward : Option Ctl → Result (Unit {0}) ℕ → (Ctl → Result (Unit {0}) ℕ) → Result (Unit {0}) ℕ
 onward none x f = x
 onward (some u) x f = f u
 
 -- the extent of the bytes from a state on, behind n bytes
-unfoldable pub verdict : List ℕ → Ctl → ℕ → Extent
+unfoldable pub verdict : List ℕ → Ctl → ℕ → Result (Unit {0}) ℕ
 verdict [] t n = at_end t n
-verdict (b ∷ s) t n = onward (turn t b) (Good n) (λ u. verdict s u (suc n))
+verdict (b ∷ s) t n = onward (turn t b) (Err n) (λ u. verdict s u (suc n))
 
 at_end_lem : (s : State) (n : ℕ) → at_end (shape s) n ≡ extent_by (Mc.is_after s) n
 at_end_lem Mc.before n = refl
@@ -221,8 +220,8 @@ same_extent (c ∷ w) s n = go (like s (suc (length w)) c) (λ t. same_extent w 
         ap (λ (v : Ctl). verdict w v (suc n)) (sym q) ∙ ih t ∙ ap (extent_by (Mc.scan t w)) e
 
     go : {x : Move} {o : Option Ctl} → Like x o → ((t : State) → verdict w (shape t) (suc n) ≡ extent_by (Mc.scan t w) (suc n + Mc.eaten t w))
-        → onward o (Good n) (λ u. verdict w u (suc n)) ≡ extent_by (Mc.follow x (λ t. Mc.scan t w)) (n + Mc.one_more x (λ t. Mc.eaten t w))
-    go stops ih = ap Good (sym (add-zero n))
+        → onward o (Err n) (λ u. verdict w u (suc n)) ≡ extent_by (Mc.follow x (λ t. Mc.scan t w)) (n + Mc.one_more x (λ t. Mc.eaten t w))
+    go stops ih = ap Err (sym (add-zero n))
     go (gos {t = t} {u = u} q) ih = later t u q ih
     go (says {ts = ts} {t = t} {u = u} q) ih = later t u q ih ∙ prefixed ts (Mc.scan t w) (n + suc (Mc.eaten t w))
 

@@ -7,8 +7,6 @@ pub mod Turns
 pub mod ExtentLaws
 pub mod Numerals
 pub mod Decodes
-pub mod Plain
 pub mod Spells
 pub mod WalkLaws
 pub mod Walked
-pub mod RawRoom

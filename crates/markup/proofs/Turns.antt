@@ -12,7 +12,7 @@ use lib.Seq.{slice, slice-cons, slice_empty, drop-cons, get_or-set_same, get_or-
 use borrow.Author.Count.{below_more}
 use borrow.Author.Tests.{eq-eqb, ne_eqb, lt-ltb, le-ltb}
 use Rattle.markup.specs.Extent.{extent_of, behind_at}
-use Rattle.markup.specs.declared.scan.Extent.TheVariants.{Whole, Good}
+use Rattle.std.specs.Prelude.{Ok, Err}
 use Rattle.markup.proofs.Control.{next, Ctl, ctl, upper, act, turn, onward, verdict, extent_is}
 use Rattle.markup.proofs.Slices.{grown, one}
 use Rattle.markup.proofs.TableLaws.{mode_of, act_of, weight, is_inner, Moved, done_is}
@@ -74,14 +74,14 @@ behind_fits s starts ends (suc d) =
 
 -- a byte that the machine takes leads on; one that it does not take ends the good beginning
 module _ (s : List ℕ) (i : ℕ) (h : i < length s) (t : Ctl) (v : extent_of s ≡ verdict (drop i s) t i) where
-  split : verdict (drop i s) t i ≡ onward (turn t (get_or s i 0)) (Good i) (λ u. verdict (drop (i + 1) s) u (i + 1))
+  split : verdict (drop i s) t i ≡ onward (turn t (get_or s i 0)) (Err i) (λ u. verdict (drop (i + 1) s) u (i + 1))
   unfolding verdict
   split = rw (add-one, drop-cons s i 0)
 
   on : (u : Ctl) → turn t (get_or s i 0) ≡ some u → extent_of s ≡ verdict (drop (i + 1) s) u (i + 1)
   on u e = v ∙ split ∙ rw e
 
-  off : turn t (get_or s i 0) ≡ none → Good i ≡ extent_of s
+  off : turn t (get_or s i 0) ≡ none → Err i ≡ extent_of s
   off e = sym (v ∙ split ∙ rw e)
 
 module _ {s starts ends : List ℕ} {depth mode k e i : ℕ} (H : Held s starts ends depth mode k e i) (h : i < length s) where
@@ -110,7 +110,7 @@ module _ {s starts ends : List ℕ} {depth mode k e i : ℕ} (H : Held s starts 
     }
 
     -- it is not
-    pub unmatched : (get_or s i 0 ≡ get_or s k 0 → ⊥) → Good i ≡ extent_of s
+    pub unmatched : (get_or s i 0 ≡ get_or s k 0 → ⊥) → Err i ≡ extent_of s
     unfolding turn
     unmatched q = off s i h _ H.right (rw (wanted, ne_eqb (get_or s i 0) (get_or s k 0) q))
 
@@ -195,7 +195,7 @@ module _ {s starts ends : List ℕ} {depth mode k e i : ℕ} (H : Held s starts 
     }
 
     -- no well-formed page has the byte here
-    pub refused : 52 < r → Good i ≡ extent_of s
+    pub refused : 52 < r → Err i ≡ extent_of s
     unfolding act act_of
     refused a = off s i h _ H.right (acts _ ∙ rw (le-ltb r 48 (omega arith), ne_eqb r 48 (λ u. omega arith), ne_eqb r 49 (λ u. omega arith), ne_eqb r 50 (λ u. omega arith), ne_eqb r 51 (λ u. omega arith), ne_eqb r 52 (λ u. omega arith)))
 
@@ -277,11 +277,11 @@ module _ {s starts ends : List ℕ} {depth mode k e i : ℕ} (H : Held s starts 
 -- the page's end
 module _ {s starts ends : List ℕ} {depth mode k e i : ℕ} (H : Held s starts ends depth mode k e i) (h : length s ≤ i) where
   -- behind the page's element the page is whole
-  pub finished : mode ≡ 14 → Whole ≡ extent_of s
+  pub finished : mode ≡ 14 → Ok tt ≡ extent_of s
   unfolding verdict mode_of
   finished a = sym (H.right ∙ rw (drop_of_length-le s h, a))
 
   -- anywhere else it ends too early
-  pub unfinished : (mode ≡ 14 → ⊥) → Good i ≡ extent_of s
+  pub unfinished : (mode ≡ 14 → ⊥) → Err i ≡ extent_of s
   unfolding verdict
   unfinished a = sym (H.right ∙ rw (drop_of_length-le s h, done_is mode H.mode_low, ne_eqb mode 14 a))

@@ -14,7 +14,8 @@ use borrow.Author.Tests.{eq-eqb, ne_eqb, lt-ltb, le-ltb}
 use Rattle.paper.specs.Lists.{if, until}
 use Rattle.paper.specs.Bytes.{is_space}
 use Rattle.paper.specs.Grammar.{Tag, end}
-use Rattle.markup.specs.Walk.{passes, stops, more, name_end, quote_at, raw_end, form, inside, inside_at, opened, tag_before, tags_from, tags_at}
+use Rattle.markup.specs.declared.walk.Set.TheVariants.{Spaces, Names, Middle, Not}
+use Rattle.markup.specs.Walk.{passes, within, stops, more, name_end, quote_at, raw_end, form, inside, inside_at, opened, tag_before, tags_from, tags_at}
 
 -- ---- runs of bytes
 
@@ -75,7 +76,7 @@ unfolding inside form
 unroll [] e = refl
 unroll (b ∷ s) e = rw e (ap (form (b ∷ s)) (skip s (raw_end (b ∷ s))))
 
-module _ (s : List ℕ) (at a e : ℕ) (ha : a ≡ at + until (passes 0) (drop at s)) (he : e ≡ a + until (passes 1) (drop a s)) where
+module _ (s : List ℕ) (at a e : ℕ) (ha : a ≡ at + until (passes Spaces) (drop at s)) (he : e ≡ a + until (passes Names) (drop a s)) where
   here : inside_at s at ≡ form (drop a s) (inside (drop (suc (raw_end (drop a s))) (drop a s)) 0)
   here =
       let q : is_space (get_or (drop a s) 0 0) ≡ false = rw (ha, ← drop-drop (until is_space (drop at s)) at s, get_or-drop (until is_space (drop at s)) (drop at s) 0 0, add-zero) (stop_at is_space refl (drop at s)) in
@@ -88,20 +89,20 @@ module _ (s : List ℕ) (at a e : ℕ) (ha : a ≡ at + until (passes 0) (drop a
       let w : name_end (drop a s) ≡ 0 = omega arith in
       here ∙ rw (eq-eqb (name_end (drop a s)) 0 w, get_or-drop a s 0 0, add-zero)
 
-  module _ (q k re : ℕ) (hq : q ≡ e + until (passes 2) (drop e s)) (hk : k ≡ get_or s q 0) (hr : re ≡ q + 1 + until (passes k) (drop (q + 1) s)) (n : e ≡ a → ⊥) where
+  module _ (q k re : ℕ) (hq : q ≡ e + until (passes Middle) (drop e s)) (hk : k ≡ get_or s q 0) (hr : re ≡ q + 1 + until (passes (within k)) (drop (q + 1) s)) (n : e ≡ a → ⊥) where
     t : List ℕ
     t = drop a s
 
     q_is : q ≡ a + quote_at t
     unfolding t
-    q_is = along (passes 2) s a (name_end (drop a s)) e q he hq
+    q_is = along (passes Middle) s a (name_end (drop a s)) e q he hq
 
     re_is : re ≡ a + raw_end t
     unfolding t raw_end
     re_is =
         let w : q + 1 ≡ a + (quote_at (drop a s) + 1) = omega (arith, q_is) in
         let v : k ≡ get_or (drop a s) (quote_at (drop a s)) 0 = hk ∙ rw (get_or-drop a s (quote_at (drop a s)) 0, ← q_is) in
-        along (passes k) s a (quote_at (drop a s) + 1) (q + 1) re w hr ∙ rw v
+        along (passes (within k)) s a (quote_at (drop a s) + 1) (q + 1) re w hr ∙ rw v
 
     named : eqb (name_end t) 0 ≡ false
     unfolding t
@@ -137,19 +138,19 @@ module _ (s : List ℕ) (at a e : ℕ) (ha : a ≡ at + until (passes 0) (drop a
 -- ---- tags
 
 -- bytes other than `<` say nothing
-over : (i : ℕ) (s : List ℕ) → tags_from i s ≡ tags_from (i + until (passes 60) s) (drop (until (passes 60) s) s)
+over : (i : ℕ) (s : List ℕ) → tags_from i s ≡ tags_from (i + until (passes (Not 60)) s) (drop (until (passes (Not 60)) s) s)
 unfolding tags_from
 over i [] = refl
-over i (b ∷ s) = go (passes 60 b) refl (over (suc i) s)
+over i (b ∷ s) = go (passes (Not 60) b) refl (over (suc i) s)
   where
-    go : (t : Bool) → passes 60 b ≡ t → tags_from (suc i) s ≡ tags_from (suc i + until (passes 60) s) (drop (until (passes 60) s) s)
-        → if t (tags_from (suc i) s) (tag_before i s (tags_from (suc i) s)) ≡ tags_from (i + if t (suc (until (passes 60) s)) 0) (drop (if t (suc (until (passes 60) s)) 0) (b ∷ s))
-    go true e h = let w : i + suc (until (passes 60) s) ≡ suc i + until (passes 60) s = omega arith in rw w h
+    go : (t : Bool) → passes (Not 60) b ≡ t → tags_from (suc i) s ≡ tags_from (suc i + until (passes (Not 60)) s) (drop (until (passes (Not 60)) s) s)
+        → if t (tags_from (suc i) s) (tag_before i s (tags_from (suc i) s)) ≡ tags_from (i + if t (suc (until (passes (Not 60)) s)) 0) (drop (if t (suc (until (passes (Not 60)) s)) 0) (b ∷ s))
+    go true e h = let w : i + suc (until (passes (Not 60)) s) ≡ suc i + until (passes (Not 60)) s = omega arith in rw w h
     go false e h = rw (add-zero i, e)
 
-module _ (s : List ℕ) (at i : ℕ) (hi : i ≡ at + until (passes 60) (drop at s)) where
+module _ (s : List ℕ) (at i : ℕ) (hi : i ≡ at + until (passes (Not 60)) (drop at s)) where
   there : tags_at s at ≡ tags_at s i
-  there = over at (drop at s) ∙ rw (← hi, drop-drop (until (passes 60) (drop at s)) at s, ← hi)
+  there = over at (drop at s) ∙ rw (← hi, drop-drop (until (passes (Not 60)) (drop at s)) at s, ← hi)
 
   -- no `<` is left
   pub no_tag : length s ≤ i → tags_at s at ≡ []
@@ -160,8 +161,8 @@ module _ (s : List ℕ) (at i : ℕ) (hi : i ≡ at + until (passes 60) (drop at
   pub tag_at : i < length s → tags_at s at ≡ tag_before i (drop (i + 1) s) (tags_at s (i + 1))
   unfolding tags_from
   tag_at h =
-      let l : until (passes 60) (drop at s) < length (drop at s) = rw length-drop (omega (arith, hi)) in
-      let b : passes 60 (get_or s i 0) ≡ false = rw hi (rw (get_or-drop at s (until (passes 60) (drop at s)) 0) at (stop_in (passes 60) (drop at s) l)) in
+      let l : until (passes (Not 60)) (drop at s) < length (drop at s) = rw length-drop (omega (arith, hi)) in
+      let b : passes (Not 60) (get_or s i 0) ≡ false = rw hi (rw (get_or-drop at s (until (passes (Not 60)) (drop at s)) 0) at (stop_in (passes (Not 60)) (drop at s) l)) in
       there ∙ rw (add-one, drop-cons s i 0 h, b)
 
 -- a `/` behind the `<`: an end tag
@@ -170,8 +171,8 @@ unfolding tag_before
 ending s i b ts e h = rw (get_or-drop (i + 1) s 0 0, add-zero, eq-eqb (get_or s (i + 1) 0) 47 (sym e ∙ h))
 
 -- anything else: a start tag, its name and its inside
-pub starting : (s : List ℕ) (i b e : ℕ) (ts : List Tag) → b ≡ get_or s (i + 1) 0 → (b ≡ 47 → ⊥) → e ≡ i + 1 + until (passes 1) (drop (i + 1) s)
+pub starting : (s : List ℕ) (i b e : ℕ) (ts : List Tag) → b ≡ get_or s (i + 1) 0 → (b ≡ 47 → ⊥) → e ≡ i + 1 + until (passes Names) (drop (i + 1) s)
     → tag_before i (drop (i + 1) s) ts ≡ opened i (slice (i + 1) e s) (inside_at s e) ts
 unfolding tag_before
 starting s i b e ts f h g =
-    rw (get_or-drop (i + 1) s 0 0, add-zero, ne_eqb (get_or s (i + 1) 0) 47 (λ z. h (f ∙ z)), drop-drop (until (passes 1) (drop (i + 1) s)) (i + 1) s, take_drop (i + 1) (until (passes 1) (drop (i + 1) s)) s, ← g)
+    rw (get_or-drop (i + 1) s 0 0, add-zero, ne_eqb (get_or s (i + 1) 0) 47 (λ z. h (f ∙ z)), drop-drop (until (passes Names) (drop (i + 1) s)) (i + 1) s, take_drop (i + 1) (until (passes Names) (drop (i + 1) s)) s, ← g)

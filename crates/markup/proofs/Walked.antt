@@ -17,7 +17,8 @@ use Rattle.paper.specs.Grammar.{Attr, Tag, start, end, amp, lt, gt, quot, apos, 
 use Rattle.paper.specs.Machine.{before, scan}
 use Rattle.paper.proofs.Small.{no, every_all}
 use Rattle.paper.proofs.Exact.{exact}
-use Rattle.markup.specs.Walk.{passes, is_middle, Inside, more, name_end, quote_at, raw_end, form, inside, opened, tag_before, tags_from, tags_at}
+use Rattle.markup.specs.declared.walk.Set.TheVariants.{Not}
+use Rattle.markup.specs.Walk.{passes, within, is_middle, Inside, more, name_end, quote_at, raw_end, form, inside, opened, tag_before, tags_from, tags_at}
 use Rattle.markup.proofs.WalkLaws.{take_drop, unroll}
 
 -- ---- sets of bytes
@@ -140,7 +141,7 @@ past a b = drop_at a b (length a) refl
 -- its name n, what stands between name and quote g, its quote q, its raw value r, and the bytes x behind it
 module _ (n g : List ℕ) (q : ℕ) (r x : List ℕ) (hc : is_space (get_or n 0 0) ≡ false) (ho : 0 < length n)
     (hn : until is_name_byte (n ++ (g ++ q ∷ (r ++ q ∷ x))) ≡ length n) (hg : All (Pass is_middle) g) (hq : is_middle q ≡ false)
-    (hr : All (Pass (passes q)) r) (hz : passes q q ≡ false) where
+    (hr : All (Pass (passes (within q))) r) (hz : passes (within q) q ≡ false) where
   t : List ℕ
   t = n ++ (g ++ q ∷ (r ++ q ∷ x))
 
@@ -166,7 +167,7 @@ module _ (n g : List ℕ) (q : ℕ) (r x : List ℕ) (hc : is_space (get_or n 0 
 
   r_at : raw_end t ≡ length n + length g + 1 + length r
   unfolding raw_end
-  r_at = rw (q_at, q_is, drop_r, seam (passes q) r q x hr hz)
+  r_at = rw (q_at, q_is, drop_r, seam (passes (within q)) r q x hr hz)
 
   drop_x : drop (suc (raw_end t)) t ≡ x
   drop_x =
@@ -207,12 +208,12 @@ module _ (n g : List ℕ) (q : ℕ) (r x : List ℕ) (hc : is_space (get_or n 0 
   reads_one = one
 
 -- what the walk must know of a quote
-quote_facts : {q : ℕ} → Quote q → (is_middle q ≡ false) × (passes q q ≡ false) × (is_ref q ≡ false) × (not (eqb 38 q) ≡ true) × (passes 60 q ≡ true)
+quote_facts : {q : ℕ} → Quote q → (is_middle q ≡ false) × (passes (within q) q ≡ false) × (is_ref q ≡ false) × (not (eqb 38 q) ≡ true) × (passes (Not 60) q ≡ true)
 unfolding is_ref
 quote_facts double = (refl, refl, refl, refl, refl)
 quote_facts single = (refl, refl, refl, refl, refl)
 
-raw_all : {q : ℕ} {r : List ℕ} → Quote q → Raw q r → All (Pass (passes q)) r
+raw_all : {q : ℕ} {r : List ℕ} → Quote q → Raw q r → All (Pass (passes (within q))) r
 unfolding is_ref
 raw_all double p = raw_lacks 34 refl refl (λ c e. (plain_other 34 c e).0) p
 raw_all single p = raw_lacks 39 refl refl (λ c e. (plain_other 39 c e).0) p
@@ -245,10 +246,10 @@ attrs_in (attr (c ∷ n) u v q r {w = w} (e, h) us vs k p o) d y hs hn =
 
 -- no `<` stands among these bytes
 abbrev Out : List ℕ → Type 0
-Out s = All (Pass (passes 60)) s
+Out s = All (Pass (passes (Not 60))) s
 
 out_of : (p : ℕ → Bool) → p 60 ≡ false → (s : List ℕ) → All (Pass p) s → Out s
-out_of p z s h = all_to p (passes 60) (λ c e. other p c 60 e z) s h
+out_of p z s h = all_to p (passes (Not 60)) (λ c e. other p c 60 e z) s h
 
 raw_out : {q : ℕ} {r : List ℕ} → Raw q r → Out r
 unfolding is_ref
@@ -259,9 +260,9 @@ attrs_out end = tt
 attrs_out (space {c = c} e q) = (other is_space c 60 e refl, attrs_out q)
 attrs_out (attr n u v q r {w = w} hn us vs k p o) =
     let z = (quote_facts k).4 in
-    all_append (passes 60) n (u ++ 61 ∷ (v ++ q ∷ (r ++ q ∷ w))) (out_of is_name_byte refl n (name_all n hn))
-    (all_append (passes 60) u (61 ∷ (v ++ q ∷ (r ++ q ∷ w))) (out_of is_space refl u us)
-    (refl, all_append (passes 60) v (q ∷ (r ++ q ∷ w)) (out_of is_space refl v vs) (z, all_append (passes 60) r (q ∷ w) (raw_out p) (z, attrs_out o))))
+    all_append (passes (Not 60)) n (u ++ 61 ∷ (v ++ q ∷ (r ++ q ∷ w))) (out_of is_name_byte refl n (name_all n hn))
+    (all_append (passes (Not 60)) u (61 ∷ (v ++ q ∷ (r ++ q ∷ w))) (out_of is_space refl u us)
+    (refl, all_append (passes (Not 60)) v (q ∷ (r ++ q ∷ w)) (out_of is_space refl v vs) (z, all_append (passes (Not 60)) r (q ∷ w) (raw_out p) (z, attrs_out o))))
 
 -- bytes without `<` hold no tag
 seg : (a x : List ℕ) (i : ℕ) → Out a → tags_from i (a ++ x) ≡ tags_from (i + length a) x

@@ -1,6 +1,6 @@
 -- Decoding: the words in which the contracts of the decoder's own functions tell paper's steps; what `decode` itself promises is paper's `value`.
 -- Assumes nothing.
-use Rattle.std.specs.Prelude.{◌≡◌, List, [], ◌∷◌, ℕ, ◌+◌, ◌*◌, ◌-◌, ◌≤◌, eqb, ltb}
+use Rattle.std.specs.Prelude.{◌≡◌, List, [], ◌∷◌, ℕ, ◌+◌, ◌*◌, ◌-◌, ◌≤◌, eqb, ltb, Option, Some, None, option_to_list}
 use Rattle.std.proofs.Math.Seq.{slice}
 use Rattle.paper.specs.Lists.{bytes, if, same}
 use Rattle.paper.specs.Values.{hex_digit, At, text, cr, ref, Put}
@@ -17,17 +17,13 @@ unfoldable pub numeral_in : ℕ → ℕ → List ℕ → ℕ
 numeral_in base a [] = a
 numeral_in base a (c ∷ s) = numeral_in base (a * base + digit_in base c) s
 
--- a number up to 255; 256 stands for any above, as none of them is a byte
-unfoldable pub capped : ℕ → ℕ
-capped n = if (ltb n 256) n 256
+-- a number up to 255; none above is a byte
+unfoldable pub byte_in : ℕ → Option ℕ
+byte_in n = if (ltb n 256) (Some n) None
 
 -- the five named references, as paper's `refers` reads them
 unfoldable pub named_of : List ℕ → ℕ
 named_of s = if (same s (bytes "amp")) 38 (if (same s (bytes "lt")) 60 (if (same s (bytes "gt")) 62 (if (same s (bytes "quot")) 34 (if (same s (bytes "apos")) 39 0))))
-
--- what a step gives as a number: 256 is nothing
-unfoldable pub shown : ℕ → List ℕ
-shown e = if (eqb e 256) [] (e ∷ [])
 
 -- where paper's reader stands, where the code's stands there before byte i of w
 abbrev pub place_at : List ℕ → ℕ → Place → At
@@ -43,4 +39,4 @@ Sound i (Ref start) = start ≤ i
 
 -- the code's step r at byte i of w is paper's step p
 abbrev pub Gives : List ℕ → ℕ → Put → Given → Type 0
-Gives w i p r = (r.out ≤ 256) × (shown r.out ≡ p.out) × (place_at w (i + 1) r.to ≡ p.to) × Sound (i + 1) r.to
+Gives w i p r = (option_to_list r.out ≡ p.out) × (place_at w (i + 1) r.to ≡ p.to) × Sound (i + 1) r.to

@@ -3,30 +3,21 @@ ghost use Rattle.std.specs.Prelude.{◌≡◌, ◌≤◌, length};
 ghost use Rattle.paper.specs.Sizes.{page_bytes};
 ghost use Rattle.markup.specs.Extent.{extent_of, behind_at};
 
-use crate::tables::{AFTER, BARE, CLOSE, CLOSING, GROW, INSIDE, KINDS, NEXT, PUSH, SLASH, TAG, UP};
-
-// How far a page is good.
-#[derive(Clone, Copy)]
-pub enum Extent {
-    // The page is well-formed.
-    Whole,
-    // The page is malformed; so many of its first bytes are the longest beginning that some well-formed page shares.
-    Good(usize),
-}
+use crate::tables::{
+    AFTER, BARE, BEFORE, CLOSE, CLOSING, GROW, INSIDE, KINDS, NEXT, PUSH, SLASH, TAG, UP,
+};
 
 // The mode behind an element's end, where so many elements are still open.
 fn behind(depth: usize) -> u8
     ensures { result ≡ behind_at depth }
 {
-    if depth == 0 {
-        return AFTER;
-    }
-    INSIDE
+    if depth == 0 { AFTER } else { INSIDE }
 }
 
-// Whether a page is well-formed, else the length of its longest good beginning. One step a byte: the table gives the next mode, or an act on the
-// open elements, of whose names `starts` and `ends` hold the places, innermost last; `k` to `e` is what an end tag's name must still spell.
-pub fn scan(page: &[u8]) -> Extent
+// Whether a page is well-formed; if not, so many of its first bytes are the longest beginning that some well-formed page shares. One step a byte: the
+// table gives the next mode, or an act on the open elements, of whose names `starts` and `ends` hold the places, innermost last; `k` to `e` is what an
+// end tag's name must still spell. Modes and acts stay numbers, since they are the entries of a table that is made.
+pub fn scan(page: &[u8]) -> Result<(), usize>
     requires { length page.now ≤ page_bytes }
     ensures { result ≡ extent_of page.now }
 {
@@ -35,53 +26,43 @@ pub fn scan(page: &[u8]) -> Extent
     let mut starts = [0u16; 467];
     let mut ends = [0u16; 467];
     let mut depth = 0;
-    let mut mode: u8 = 0;
+    let mut mode = BEFORE;
     let mut k = 0;
     let mut e = 0;
-    let mut i = 0;
-    while i < page.len() {
-        let b = page[i];
-        let j = i + 1;
+    for (i, &b) in page.iter().enumerate() {
         if k < e {
             if b != page[k] {
-                return Extent::Good(i);
+                return Err(i);
             }
             k += 1;
-            i = j;
-        } else {
-            let a = next[(mode as usize) * 26 + (kinds[b as usize] as usize)];
-            if a < PUSH {
-                mode = a;
-                i = j;
-            } else if a == PUSH {
+            continue;
+        }
+        match next[mode as usize * 26 + kinds[b as usize] as usize] {
+            a if a < PUSH => mode = a,
+            PUSH => {
                 starts[depth] = i as u16;
-                ends[depth] = j as u16;
+                ends[depth] = (i + 1) as u16;
                 depth += 1;
                 mode = TAG;
-                i = j;
-            } else if a == GROW {
-                ends[depth - 1] = j as u16;
-                i = j;
-            } else if a == CLOSE {
+            }
+            GROW => ends[depth - 1] = (i + 1) as u16,
+            CLOSE => {
                 depth -= 1;
                 k = starts[depth] as usize;
                 e = ends[depth] as usize;
                 mode = CLOSING;
-                i = j;
-            } else if a == BARE {
+            }
+            BARE => {
                 depth -= 1;
                 mode = SLASH;
-                i = j;
-            } else if a == UP {
-                mode = behind(depth);
-                i = j;
-            } else {
-                return Extent::Good(i); // The act is WRONG.
             }
+            UP => mode = behind(depth),
+            _ => return Err(i), // The act is WRONG.
         }
     }
     if mode == AFTER {
-        return Extent::Whole;
+        Ok(())
+    } else {
+        Err(page.len())
     }
-    Extent::Good(i)
 }

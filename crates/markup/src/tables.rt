@@ -1,5 +1,8 @@
 // The tables of the scan. Made by tools/scan-table.
 
+// The mode before the page's element.
+pub const BEFORE: u8 = 0;
+
 // The mode in the name of a start tag.
 pub const TAG: u8 = 2;
 

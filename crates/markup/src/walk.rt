@@ -4,23 +4,21 @@ ghost use Rattle.std.specs.Prelude.{◌≡◌, ◌+◌, ◌≤◌, length, drop}
 ghost use Rattle.paper.specs.Lists.{until};
 ghost use Rattle.paper.specs.Bytes.{is_space};
 ghost use Rattle.paper.specs.Grammar.{is_name_byte};
-ghost use Rattle.markup.specs.Walk.{is_middle, passes, inside_at, tags_at, first_of, tag_of, Inner, Outer};
+ghost use Rattle.markup.specs.Walk.{is_middle, passes, within, inside_at, tags_at, first_of, tag_of, Inner, Outer};
 
 use room::byte_or;
 
 // A page's next tag.
-#[derive(Clone, Copy)]
+#[derive(Clone, Copy, PartialEq, Eq)]
 pub enum Mark {
     // A start tag: its `<` stands at `at`, its name behind that up to `name_end`, and there its attributes begin.
     Start { at: usize, name_end: usize },
     // An end tag, whose `<` stands at `at`.
     End { at: usize },
-    // No tag is left.
-    Nothing,
 }
 
 // What stands next in a start tag.
-#[derive(Clone, Copy)]
+#[derive(Clone, Copy, PartialEq, Eq)]
 pub enum Piece {
     // An attribute: where its name begins and ends, and the bytes between its quotes. The next piece begins one byte behind `raw_end`.
     Attribute {
@@ -35,99 +33,74 @@ pub enum Piece {
     },
 }
 
-// The sets of bytes that the walk passes over; any other number is a byte, and stands for all bytes but that one.
-const SPACES: u8 = 0;
-
-const NAMES: u8 = 1;
-
-const MIDDLE: u8 = 2;
+// The sets of bytes that the walk passes over.
+#[derive(Clone, Copy, PartialEq, Eq)]
+pub enum Set {
+    // The spaces.
+    Spaces,
+    // The bytes of a name.
+    Names,
+    // What may stand between an attribute's name and its value.
+    Middle,
+    // All bytes but that one.
+    Not(u8),
+}
 
 // Whether a byte is a space.
 fn is_space(b: u8) -> bool
     ensures { result ≡ is_space b }
 {
-    if b == 32 {
-        return true;
-    }
-    if b == 10 {
-        return true;
-    }
-    if b == 13 {
-        return true;
-    }
-    if b == 9 {
-        return true;
-    }
-    false
+    matches!(b, b' ' | b'\n' | b'\r' | b'\t')
 }
 
 // Whether a byte may stand in a name.
 fn is_name(b: u8) -> bool
     ensures { result ≡ is_name_byte b }
 {
-    if b < 48 {
-        return false;
-    }
-    if b < 58 {
-        return true;
-    }
-    if b < 65 {
-        return false;
-    }
-    if b < 91 {
-        return true;
-    }
-    if b < 97 {
-        return false;
-    }
-    if b < 123 {
-        return true;
-    }
-    false
+    matches!(b, b'A'..=b'Z' | b'a'..=b'z' | b'0'..=b'9')
 }
 
 // Whether a byte may stand between an attribute's name and its value.
 fn is_middle(b: u8) -> bool
     ensures { result ≡ is_middle b }
 {
-    if b == 61 {
-        return true;
-    }
-    is_space(b)
+    b == b'=' || is_space(b)
 }
 
 // Whether a byte is in a set.
-fn in_set(b: u8, k: u8) -> bool
-    ensures { result ≡ passes k b }
+fn in_set(b: u8, set: Set) -> bool
+    ensures { result ≡ passes set b }
 {
-    if k == SPACES {
-        return is_space(b);
+    match set {
+        Set::Spaces => is_space(b),
+        Set::Names => is_name(b),
+        Set::Middle => is_middle(b),
+        Set::Not(k) => b != k,
     }
-    if k == NAMES {
-        return is_name(b);
-    }
-    if k == MIDDLE {
-        return is_middle(b);
-    }
-    if b == k {
-        return false;
-    }
-    true
 }
 
 // Where the bytes of a set end that begin at `at`.
-pub fn run(page: &[u8], at: usize, k: u8) -> usize
-    ensures { (result ≡ at + until (passes k) (drop at page.now)) × (at ≤ result) × (at ≤ length page.now → result ≤ length page.now) }
+pub fn run(page: &[u8], at: usize, set: Set) -> usize
+    ensures { (result ≡ at + until (passes set) (drop at page.now)) × (at ≤ result) × (at ≤ length page.now → result ≤ length page.now) }
 {
-    let mut i = at;
-    while i < page.len() {
-        if in_set(page[i], k) {
-            i += 1;
-        } else {
+    for i in at..page.len() {
+        if !in_set(page[i], set) {
             return i;
         }
     }
-    i
+    at.max(page.len())
+}
+
+// The set of a value's bytes, by the byte that opens it: all bytes but that one. The bytes 0, 1 and 2, which no page may have, stand for the other sets.
+fn within(quote: u8) -> Set
+    ensures { result ≡ within quote }
+{
+    match quote {
+        0 => Set::Spaces,
+        1 => Set::Names,
+        2 => Set::Middle,
+        _ => Set::Not(quote),
+    }
 }
 
 // The next attribute of a tag from `at` on, or the tag's end.
@@ -135,39 +108,40 @@ pub fn next_attr(page: &[u8], at: usize) -> Piece
     requires { at ≤ length page.now }
     ensures { (inside_at page.now at ≡ first_of page.now result) × Inner at (length page.now) result }
 {
-    let a = run(page, at, SPACES);
-    let e = run(page, a, NAMES);
-    if e == a {
-        let b = byte_or(page, a);
-        return Piece::Stop { shut: b == 47 };
-    }
-    let q = run(page, e, MIDDLE);
-    let k = byte_or(page, q);
-    let raw_at = q + 1;
-    let raw_end = run(page, raw_at, k);
-    if raw_end < page.len() {
-        return Piece::Attribute {
-            name_at: a,
-            name_end: e,
-            raw_at: raw_at,
-            raw_end: raw_end,
+    let name_at = run(page, at, Set::Spaces);
+    let name_end = run(page, name_at, Set::Names);
+    if name_end == name_at {
+        return Piece::Stop {
+            shut: byte_or(page, name_at) == b'/',
         };
     }
-    Piece::Stop { shut: false }
+    let q = run(page, name_end, Set::Middle);
+    let raw_at = q + 1;
+    let raw_end = run(page, raw_at, within(byte_or(page, q)));
+    if raw_end < page.len() {
+        Piece::Attribute {
+            name_at,
+            name_end,
+            raw_at,
+            raw_end,
+        }
+    } else {
+        Piece::Stop { shut: false }
+    }
 }
 
-// The next tag of a page from `at` on. The walk goes on one byte behind its `<`.
-pub fn next_tag(page: &[u8], at: usize) -> Mark
+// The next tag of a page from `at` on, if one is left. The walk goes on one byte behind its `<`.
+pub fn next_tag(page: &[u8], at: usize) -> Option<Mark>
     requires { at ≤ length page.now }
     ensures { (tags_at page.now at ≡ tag_of page.now result) × Outer at (length page.now) result }
 {
-    let i = run(page, at, 60);
-    if i >= page.len() {
-        return Mark::Nothing;
+    let at = run(page, at, Set::Not(b'<'));
+    if at >= page.len() {
+        return None;
     }
-    if byte_or(page, i + 1) == 47 {
-        return Mark::End { at: i };
+    if byte_or(page, at + 1) == b'/' {
+        return Some(Mark::End { at });
     }
-    let e = run(page, i + 1, NAMES);
-    Mark::Start { at: i, name_end: e }
+    let name_end = run(page, at + 1, Set::Names);
+    Some(Mark::Start { at, name_end })
 }

@@ -8,7 +8,7 @@ ghost use Rattle.std.specs.Prelude.{◌<◌, ◌≤◌, length};
 ghost use Rattle.paper.specs.Sizes.{page_bytes};
 
 use intake::fill;
-use markup::scan::{Extent, scan};
+use markup::scan::scan;
 use markup::values::decode;
 use markup::walk::{Mark, Piece, next_attr, next_tag};
 use std::io::{self, Write};
@@ -17,10 +17,7 @@ use std::io::{self, Write};
 fn digit(n: u8) -> u8
     requires { n < 16 }
 {
-    if n < 10 {
-        return 48 + n;
-    }
-    87 + n
+    if n < 10 { b'0' + n } else { b'a' + (n - 10) }
 }
 
 // Prints a byte in hexadecimal.
@@ -28,11 +25,9 @@ fn show_byte<W: Write>(out: &mut W, b: u8) -> io::Result<()> {
     out.write_all(&[digit(b / 16), digit(b % 16)])
 }
 
-// Prints the first n bytes in hexadecimal.
-fn show_hex<W: Write>(out: &mut W, s: &[u8], n: usize) -> io::Result<()>
-    requires { n ≤ length s.now }
-{
-    for b in &s[..n] {
+// Prints bytes in hexadecimal.
+fn show_hex<W: Write>(out: &mut W, s: &[u8]) -> io::Result<()> {
+    for b in s {
         show_byte(out, *b)?;
     }
     Ok(())
@@ -54,7 +49,7 @@ fn show_attr<W: Write>(
     out.write_all(b"attr ")?;
     out.write_all(&page[name_at..name_end])?;
     out.write_all(b" ")?;
-    show_hex(out, &value, n)?;
+    show_hex(out, &value[..n])?;
     out.write_all(b"\n")
 }
 
@@ -106,14 +101,12 @@ fn show_tags<W: Write>(out: &mut W, page: &[u8]) -> io::Result<()>
     let mut i = 0;
     loop {
         match next_tag(page, i) {
-            Mark::Nothing => {
-                return Ok(());
-            }
-            Mark::End { at } => {
+            None => return Ok(()),
+            Some(Mark::End { at }) => {
                 show_end(out)?;
                 i = at + 1;
             }
-            Mark::Start { at, name_end } => {
+            Some(Mark::Start { at, name_end }) => {
                 show_start(out, page, at, name_end)?;
                 i = at + 1;
             }
@@ -126,8 +119,8 @@ fn show_extent<W: Write>(out: &mut W, page: &[u8]) -> io::Result<()>
     requires { length page.now ≤ page_bytes }
 {
     match scan(page) {
-        Extent::Whole => out.write_all(b"whole\n"),
-        Extent::Good(n) => writeln!(out, "good {n}"),
+        Ok(()) => out.write_all(b"whole\n"),
+        Err(n) => writeln!(out, "good {n}"),
     }
 }
 

@@ -1,17 +1,20 @@
 -- SlotLaws: the spans of a tape one at a time, and their values laid.
 -- Assumes nothing.
-use mathlib.Core.Path.{◌≡◌, ap, ◌∙◌}
-use mathlib.Core.Bool.{true, false, ◌&&◌}
+use mathlib.Core.Path.{◌≡◌, refl, ap, ◌∙◌}
+use mathlib.Core.Bool.{Bool, true, false, not, ◌&&◌}
 use mathlib.Core.List.{List, [], ◌∷◌}
 use Prim.Native.Nat.{ℕ, zero, suc, ◌+◌, ◌*◌, ◌-◌, ◌≤◌, ◌<◌}
 use native.Mathlib.Omega.{arith}
 use lib.ListN.{length, take, drop, get_or}
+use lib.Dec.{eqb}
+use lib.Pointwise.{pointwise}
 use lib.Seq.{slice, take-length}
 use borrow.Author.Tests.{lt-ltb, le-ltb}
 use Rattle.paper.specs.Lists.{same, number}
 use Rattle.paper.specs.Plan.{Slots, same_slots}
 use Rattle.page.specs.Laying.{Room, Lays}
 use Rattle.page.proofs.ContentLaws.{Going, turn, room_left, room_first, regoing}
+use Rattle.room.proofs.Compared.{pointwise_same}
 use Rattle.room.proofs.Parts.{part_is}
 use Rattle.room.proofs.PairLaws.{pairs_long, pairs_at_lem, each_at}
 use Rattle.tape.specs.Tape.{shown_in, values_at, Span, Spans}
@@ -29,8 +32,16 @@ shown_side w x a b h = rw (le-ltb a 32768 h) (part_is x (a - 32768) b)
 pub whole : (v : List ℕ) → slice 0 (length v) v ≡ v
 whole v = take-length v
 
-pub same_whole : (v u a b : List ℕ) → v ≡ a → u ≡ b → same (slice 0 (length v) v) u ≡ same a b
-same_whole v u a b e f = rw (take-length v, e, f)
+-- two values compared item by item
+pub same_values : (v u a b : List ℕ) → v ≡ a → u ≡ b → pointwise eqb v u ≡ same a b
+same_values v u a b e f = pointwise_same v u ∙ rw (e, f)
+
+pub other_values : (r : Bool) (v u a b : List ℕ) → r ≡ not (pointwise eqb v u) → v ≡ a → u ≡ b → same a b ≡ not r
+other_values r v u a b h e f = rw (h, same_values v u a b e f) (twice (same a b))
+  where
+    twice : (b : Bool) → b ≡ not (not b)
+    twice true = refl
+    twice false = refl
 
 pub number_whole : (v u : List ℕ) → v ≡ u → number 0 (take (length v - 0) (drop 0 v)) ≡ number 0 u
 number_whole v u e = let z : length v - 0 ≡ length v = omega arith in rw z (ap (number 0) (take-length v ∙ e))

@@ -362,28 +362,12 @@ heading_t u v c d e h f =
 
 -- ---- heads compared
 
-module _ (a b : Head) where
-  pub other_patch : (a.patch ≡ b.patch → ⊥) → same_head a b ≡ false
-  other_patch h = rw (ne_eqb a.patch b.patch h)
+-- tests one after the other: behind one that holds the next decides, and behind one that fails nothing more
+pub decides : (p q v : Bool) → p ≡ true → v ≡ q → v ≡ (p && q)
+decides p q v e f = rw e f
 
-  module _ (p : a.patch ≡ b.patch) where
-    pub other_ident : same a.ident b.ident ≡ false → same_head a b ≡ false
-    other_ident h = rw (eq-eqb a.patch b.patch p, h)
-
-    module _ (i : same a.ident b.ident ≡ true) where
-      pub other_lang : same a.lang b.lang ≡ false → same_head a b ≡ false
-      other_lang h = rw (eq-eqb a.patch b.patch p, i, h)
-
-      module _ (l : same a.lang b.lang ≡ true) where
-        pub other_person : same_slots a.person b.person ≡ false → same_head a b ≡ false
-        other_person h = rw (eq-eqb a.patch b.patch p, i, l, h)
-
-        module _ (q : same_slots a.person b.person ≡ true) where
-          pub other_author : same_slots a.author b.author ≡ false → same_head a b ≡ false
-          other_author h = rw (eq-eqb a.patch b.patch p, i, l, q, h)
-
-          pub by_measures : same_slots a.author b.author ≡ true → same_head a b ≡ same_slots a.measures b.measures
-          by_measures h = rw (eq-eqb a.patch b.patch p, i, l, q, h)
+pub ends_it : (p q v : Bool) → p ≡ false → v ≡ p → v ≡ (p && q)
+ends_it p q v e f = rw e (f ∙ e)
 
 -- one value alone
 pub one_same : (u v : List ℕ) → same_slots (u ∷ []) (v ∷ []) ≡ same u v

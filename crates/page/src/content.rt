@@ -19,7 +19,6 @@ use crate::values::{lay_one, lay_slots, number_in, same_slots, value_of};
 use fields::lookup::count_of;
 use fields::places::{A, M, MP, O, P, R, S, W, X};
 use plan::{Kind, Plan, Span, open_row};
-use room::spells;
 
 // How many numbers stand before an element's values on the tape; the third of them tells where the next element begins.
 pub const HEADER: usize = 3;
@@ -75,10 +74,10 @@ pub fn find_head<'a>(page: &'a [u8], side: &'a [u8], tape: &'a [u16], i: usize, 
     let author = part(page, side, tape, i, j, A);
     let measures = part(page, side, tape, i, j, O);
     Places {
-        mp: mp,
-        person: person,
-        author: author,
-        measures: measures,
+        mp,
+        person,
+        author,
+        measures,
     }
 }
 
@@ -94,10 +93,7 @@ fn mp_number<'a>(page: &'a [u8], side: &'a [u8], tape: &'a [u16], mp: usize, k: 
 fn or_one(n: u32) -> u32
     ensures { (n ≡ 0 → result ≡ 1) × ((n ≡ 0 → ⊥) → result ≡ n) }
 {
-    if n == 0 {
-        return 1;
-    }
-    n
+    n.max(1)
 }
 
 // The number of a page.
@@ -142,13 +138,11 @@ fn spans_of(numbers: &[u32; 54]) -> [Span; 27]
     ensures { result ≡ pairs 27 numbers.now }
 {
     let mut spans = [Span { at: 0, len: 0 }; 27];
-    let mut j = 0;
-    while j < 27 {
+    for j in 0..27 {
         spans[j] = Span {
             at: numbers[2 * j],
             len: numbers[2 * j + 1],
         };
-        j += 1;
     }
     spans
 }
@@ -206,8 +200,8 @@ pub fn lay_head<'a>(
     let spans = spans_of(&numbers);
     HeadLaid {
         end: e,
-        patch: patch,
-        spans: spans,
+        patch,
+        spans,
     }
 }
 
@@ -227,7 +221,7 @@ fn same_language<'a>(
 {
     let l = language(one, side, tape, x, german);
     let m = language(two, side, tape, y, german);
-    spells(l, 0, l.len(), m)
+    l == m
 }
 
 // Whether two pages have the same head, told by where its parts lie.
@@ -244,22 +238,12 @@ fn same_head<'a>(
 {
     let x = mp_number(two, side, tape, k.mp, 1);
     let y = mp_number(one, side, tape, h.mp, 1);
-    if x != y {
-        return false;
-    }
-    if !same_slots(two, one, side, tape, k.mp + 4, h.mp + 4, 1) {
-        return false;
-    }
-    if !same_language(two, one, side, tape, k.mp, h.mp, b"de-DE") {
-        return false;
-    }
-    if !same_slots(two, one, side, tape, k.person, h.person, count_of(P)) {
-        return false;
-    }
-    if !same_slots(two, one, side, tape, k.author, h.author, count_of(A)) {
-        return false;
-    }
-    same_slots(two, one, side, tape, k.measures, h.measures, count_of(O))
+    x == y
+        && same_slots(two, one, side, tape, k.mp + 4, h.mp + 4, 1)
+        && same_language(two, one, side, tape, k.mp, h.mp, b"de-DE")
+        && same_slots(two, one, side, tape, k.person, h.person, count_of(P))
+        && same_slots(two, one, side, tape, k.author, h.author, count_of(A))
+        && same_slots(two, one, side, tape, k.measures, h.measures, count_of(O))
 }
 
 // Whether two pages have the same count and the same head, told by where its parts lie.
@@ -277,10 +261,7 @@ pub fn alike<'a>(
 {
     let x = count_said(one, side, tape, h.mp);
     let y = count_said(two, side, tape, k.mp);
-    if x != y {
-        return false;
-    }
-    same_head(one, two, side, tape, h, k)
+    x == y && same_head(one, two, side, tape, h, k)
 }
 
 // Whether an element gives a row: an M, an R and an X do, and an S of which c or t is present.
@@ -288,25 +269,16 @@ fn gives_row<'a>(page: &'a [u8], side: &'a [u8], tape: &'a [u16], base: usize, k
     requires { (kind < kind_count) × (base + 2 * count_of (kind_at kind) ≤ length tape.now) × Spans page.now (length side.now) (count_of (kind_at kind)) tape.now base }
     ensures { result ≡ gives_row (kind_at kind) (values_at page.now side.now (count_of (kind_at kind)) tape.now base) }
 {
-    if kind == M {
-        return true;
-    }
-    if kind == R {
-        return true;
-    }
-    if kind == X {
+    if kind == M || kind == R || kind == X {
         return true;
     }
     if kind != S {
         return false;
     }
     let c = value_of(page, side, tape[base] as usize, tape[base + 1] as usize);
-    if c.len() != 0 {
-        return true;
-    }
     let s = base + 2;
     let t = value_of(page, side, tape[s] as usize, tape[s + 1] as usize);
-    t.len() != 0
+    c.len() != 0 || t.len() != 0
 }
 
 // How many rows a page gives.
@@ -365,19 +337,13 @@ fn row_kind(kind: u8) -> Kind
     requires { kind < kind_count }
     ensures { kind_number (paper_kind result) ≡ kind_number (kind_at kind) }
 {
-    if kind == S {
-        return Kind::Heading;
+    match kind {
+        S => Kind::Heading,
+        M => Kind::Medication,
+        R => Kind::Recipe,
+        X => Kind::Note,
+        _ => Kind::Unknown,
     }
-    if kind == M {
-        return Kind::Medication;
-    }
-    if kind == R {
-        return Kind::Recipe;
-    }
-    if kind == X {
-        return Kind::Note;
-    }
-    Kind::Unknown
 }
 
 // Lays a medication as row r: its package number, its values, and those of its W, which come next.

@@ -7,7 +7,7 @@ ghost use Rattle.page.specs.Laying.{start_of, Room, Lays};
 ghost use Rattle.tape.specs.Tape.{shown_in, values_at, Span, Spans};
 
 use fields::numbers::shown;
-use room::{lay, spells};
+use room::lay;
 
 // A start from here on says that the value lies in the side room, so much less far.
 pub const ASIDE: usize = 32768;
@@ -66,15 +66,10 @@ pub fn lay_slots<'a>(
         numbers.old numbers.new at }
 {
     let mut m = n;
-    let mut b = at;
-    let mut s = base;
-    let mut j = 0;
-    while j < count {
+    for j in 0..count {
+        let s = base + 2 * j;
         let v = value_of(page, side, tape[s] as usize, tape[s + 1] as usize);
-        m = lay_one(v, text, m, numbers, b);
-        b += 2;
-        s += 2;
-        j += 1;
+        m = lay_one(v, text, m, numbers, at + 2 * j);
     }
     m
 }
@@ -104,18 +99,14 @@ pub fn same_slots<'a>(
     ensures { result ≡ same_slots (values_at one.now side.now count tape.now x)
         (values_at two.now side.now count tape.now y) }
 {
-    let mut p = x;
-    let mut q = y;
-    let mut j = 0;
-    while j < count {
+    for j in 0..count {
+        let p = x + 2 * j;
+        let q = y + 2 * j;
         let v = value_of(one, side, tape[p] as usize, tape[p + 1] as usize);
         let u = value_of(two, side, tape[q] as usize, tape[q + 1] as usize);
-        if !spells(v, 0, v.len(), u) {
+        if v != u {
             return false;
         }
-        p += 2;
-        q += 2;
-        j += 1;
     }
     true
 }

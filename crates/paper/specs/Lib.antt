@@ -2,6 +2,7 @@
 pub mod Lists
 pub mod Bytes
 pub mod Sizes
+pub mod Causes
 pub mod Grammar
 pub mod Machine
 pub mod Values

@@ -6,23 +6,14 @@ use mathlib.Core.List.{List}
 use Prim.Native.Nat.{ℕ, zero, suc, ◌+◌, ◌<◌}
 use native.Mathlib.Nat.{not-suc-le-zero, le_of_suc-le-suc, add-zero}
 use native.Mathlib.Omega.{arith}
-use lib.Dec.{eqb, ltb}
+use lib.Dec.{eqb}
 use lib.ListN.{length, get_or}
-use borrow.Author.Tests.{ltb-true}
 use Rattle.paper.specs.Lists.{if}
 use Rattle.paper.specs.Fields.{unknown, S, M, R, X}
 use Rattle.plan.specs.Numbers.{kind_shown}
 use Rattle.plan.specs.Records.{no_span, code_span_in, text_span, texts_in, paper_kind, code_kind}
 
 -- ---- the texts of a record
-
--- a text's span is one of the nineteen
-pub text_below : (j : ℕ) → j < 14 → text_span j < 19
-text_below j h = go (ltb j 3) refl
-  where
-    go : (b : Bool) → ltb j 3 ≡ b → if b j (j + 5) < 19
-    go true e = omega (arith, ltb-true j 3 e)
-    go false e = omega arith
 
 -- there are as many as were asked for
 pub texts_long : (n k : ℕ) (l : List ℕ) → length (texts_in n k l) ≡ n

@@ -8,17 +8,17 @@ ghost use Rattle.std.specs.Prelude.{◌≡◌, ◌+◌, ◌*◌, ◌≤◌, ◌<
 ghost use Rattle.plan.specs.Numbers.{record_at, kind_shown, paper_span, kind_number, head_numbers, record_with, stride};
 ghost use Rattle.plan.specs.Records.{paper_kind, code_kind, code_span_in, dose_from, dose_in, text_span, texts_in, row_in, with_record, empty_plan};
 
-use room::lay_numbers;
+use room::lay;
 
 // A value in the text: its start and its length. It is absent exactly when the length is 0.
-#[derive(Clone, Copy)]
+#[derive(Clone, Copy, PartialEq, Eq)]
 pub struct Span {
     pub at: u32,
     pub len: u32,
 }
 
 // The four times of day of a dose, each a value of its own.
-#[derive(Clone, Copy)]
+#[derive(Clone, Copy, PartialEq, Eq)]
 pub struct Times {
     pub morning: Span,
     pub midday: Span,
@@ -27,7 +27,7 @@ pub struct Times {
 }
 
 // A row's dose: four times of day of which at least one is present, or one free text, or not stated.
-#[derive(Clone, Copy)]
+#[derive(Clone, Copy, PartialEq, Eq)]
 pub enum Dose {
     Scheme(Times),
     Free(Span),
@@ -36,7 +36,7 @@ pub enum Dose {
 
 // What a row is. A number that stands for no kind is Unknown, as an element that has no place in a plan is document 01's `unknown`:
 // a record can then always be taken apart, and the rules for a sound row refuse it.
-#[derive(Clone, Copy)]
+#[derive(Clone, Copy, PartialEq, Eq)]
 pub enum Kind {
     Heading,
     Medication,
@@ -46,7 +46,7 @@ pub enum Kind {
 }
 
 // A row taken apart: its kind, its package number (0: none), its dose, and its other values in writing order.
-#[derive(Clone, Copy)]
+#[derive(Clone, Copy, PartialEq, Eq)]
 pub struct Row {
     pub kind: Kind,
     pub package: u32,
@@ -55,7 +55,7 @@ pub struct Row {
 }
 
 // A plan by value: the patch, how many rows there are, and the head's values in writing order. Rows and text are lent beside it.
-#[derive(Clone, Copy)]
+#[derive(Clone, Copy, PartialEq, Eq)]
 pub struct Plan {
     pub patch: u32,
     pub rows: u32,
@@ -82,45 +82,42 @@ impl Plan {
     pub fn empty() -> Plan
         ensures { result ≡ empty_plan }
     {
-        let none = Span { at: 0, len: 0 };
         Plan {
             patch: 0,
             rows: 0,
-            head: [none; 27],
+            head: [Span { at: 0, len: 0 }; 27],
         }
     }
 }
 
 // The number that a kind has in a record; an unknown kind has 0.
-pub fn kind_number(k: Kind) -> u32
-    ensures { result ≡ kind_number (paper_kind k) }
-{
-    match k {
-        Kind::Heading => 1,
-        Kind::Medication => 2,
-        Kind::Recipe => 3,
-        Kind::Note => 4,
-        Kind::Unknown => 0,
+impl From<Kind> for u32 {
+    ghost from_gives = { λ kind n. n ≡ kind_number (paper_kind kind) };
+
+    fn from(kind: Kind) -> u32 {
+        match kind {
+            Kind::Heading => 1,
+            Kind::Medication => 2,
+            Kind::Recipe => 3,
+            Kind::Note => 4,
+            Kind::Unknown => 0,
+        }
     }
 }
 
 // The kind that a number stands for; any number above 4, and 0, is unknown.
-pub fn kind_of(n: u32) -> Kind
-    ensures { result ≡ code_kind (kind_shown n) }
-{
-    if n == 1 {
-        return Kind::Heading;
+impl From<u32> for Kind {
+    ghost from_gives = { λ n kind. kind ≡ code_kind (kind_shown n) };
+
+    fn from(n: u32) -> Kind {
+        match n {
+            1 => Kind::Heading,
+            2 => Kind::Medication,
+            3 => Kind::Recipe,
+            4 => Kind::Note,
+            _ => Kind::Unknown,
+        }
     }
-    if n == 2 {
-        return Kind::Medication;
-    }
-    if n == 3 {
-        return Kind::Recipe;
-    }
-    if n == 4 {
-        return Kind::Note;
-    }
-    Kind::Unknown
 }
 
 // The kind of row i, counted from 0.
@@ -128,7 +125,7 @@ pub fn kind_at(rows: &[u32], i: usize) -> Kind
     requires { (i + 1) * stride ≤ length rows.now }
     ensures { result ≡ code_kind (kind_shown (get_or (record_at rows.now i) 0 0)) }
 {
-    kind_of(rows[i * Plan::STRIDE])
+    Kind::from(rows[i * Plan::STRIDE])
 }
 
 // The package number of row i; 0 if it has none.
@@ -140,6 +137,7 @@ pub fn package_at(rows: &[u32], i: usize) -> u32
 }
 
 // Span j of row i.
+#[tactic(auto, using(crate::proofs::Records::record_span))]
 pub fn span_at(rows: &[u32], i: usize, j: usize) -> Span
     requires { ((i + 1) * stride ≤ length rows.now) × (j < 19) }
     ensures { result ≡ code_span_in (record_at rows.now i) j }
@@ -158,16 +156,7 @@ pub fn dose_from(x: Times, t: Span) -> Dose
     if t.len != 0 {
         return Dose::Free(t);
     }
-    if x.morning.len != 0 {
-        return Dose::Scheme(x);
-    }
-    if x.midday.len != 0 {
-        return Dose::Scheme(x);
-    }
-    if x.evening.len != 0 {
-        return Dose::Scheme(x);
-    }
-    if x.night.len != 0 {
+    if x.morning.len != 0 || x.midday.len != 0 || x.evening.len != 0 || x.night.len != 0 {
         return Dose::Scheme(x);
     }
     Dose::Unstated
@@ -178,18 +167,13 @@ pub fn dose_at(rows: &[u32], i: usize) -> Dose
     requires { (i + 1) * stride ≤ length rows.now }
     ensures { result ≡ dose_in (record_at rows.now i) }
 {
-    let morning = span_at(rows, i, 3);
-    let midday = span_at(rows, i, 4);
-    let evening = span_at(rows, i, 5);
-    let night = span_at(rows, i, 6);
-    let free = span_at(rows, i, 7);
     let times = Times {
-        morning: morning,
-        midday: midday,
-        evening: evening,
-        night: night,
+        morning: span_at(rows, i, 3),
+        midday: span_at(rows, i, 4),
+        evening: span_at(rows, i, 5),
+        night: span_at(rows, i, 6),
     };
-    dose_from(times, free)
+    dose_from(times, span_at(rows, i, 7))
 }
 
 // The span in which text j of a row stands: the five of the dose are left out.
@@ -205,44 +189,37 @@ pub fn texts_at(rows: &[u32], i: usize) -> [Span; 14]
     requires { (i + 1) * stride ≤ length rows.now }
     ensures { result ≡ texts_in 14 0 (record_at rows.now i) }
 {
-    let none = Span { at: 0, len: 0 };
-    let mut texts = [none; 14];
-    let mut j = 0;
-    while j < 14 {
-        let k = text_span(j);
-        let s = span_at(rows, i, k);
-        texts[j] = s;
-        j += 1;
+    let mut texts = [Span { at: 0, len: 0 }; 14];
+    for (j, text) in texts.iter_mut().enumerate() {
+        *text = span_at(rows, i, text_span(j));
     }
     texts
 }
 
 // Row i, taken apart.
+#[tactic(auto, unfolding(crate::specs::Records::row_in))]
 pub fn row_at(rows: &[u32], i: usize) -> Row
     requires { (i + 1) * stride ≤ length rows.now }
     ensures { result ≡ row_in (record_at rows.now i) }
 {
-    let kind = kind_at(rows, i);
-    let package = package_at(rows, i);
-    let dose = dose_at(rows, i);
-    let texts = texts_at(rows, i);
     Row {
-        kind: kind,
-        package: package,
-        dose: dose,
-        texts: texts,
+        kind: kind_at(rows, i),
+        package: package_at(rows, i),
+        dose: dose_at(rows, i),
+        texts: texts_at(rows, i),
     }
 }
 
 // Opens row i: its record has the kind and the package number, and 0 in all other places. All other records stay.
+#[tactic(auto, unfolding(crate::specs::Numbers::record_with))]
 pub fn open_row(rows: &mut [u32], i: usize, kind: Kind, package: u32)
     requires { (i + 1) * stride ≤ length rows.old }
     ensures { rows.new ≡ with_record rows.old i (record_with (kind_number (paper_kind kind)) «package» []) }
 {
     let mut record = [0u32; Plan::STRIDE];
-    record[0] = kind_number(kind);
+    record[0] = u32::from(kind);
     record[1] = package;
-    lay_numbers(rows, i * Plan::STRIDE, &record);
+    lay(rows, i * Plan::STRIDE, &record);
 }
 
 // The spans of a head as numbers: span j at number 2 + 2 * j, as in a row's record, behind two that are 0.
@@ -250,12 +227,9 @@ pub fn head_numbers(head: [Span; 27]) -> [u32; 56]
     ensures { result ≡ head_numbers (map paper_span head) }
 {
     let mut numbers = [0u32; 56];
-    let mut j = 0;
-    while j < 27 {
-        let s = head[j];
+    for (j, s) in head.iter().enumerate() {
         numbers[2 * j + 2] = s.at;
         numbers[2 * j + 3] = s.len;
-        j += 1;
     }
     numbers
 }

@@ -6,13 +6,12 @@
 
 use intake::fill;
 use std::io;
-use tollgilt::input::{CELL_ASKING, CELL_LINES, cell_input, printed_len};
+use tollgilt::input::{CELL_ASKING, CELL_LINES, cell_input};
 
 fn main(rt: HostRuntime) -> io::Result<()> {
     let mut input = [0u8; CELL_ASKING];
     let n = fill(&mut rt.stdin(), &mut input)?;
     let mut out = [0u8; CELL_LINES];
-    let printed = cell_input(&input[..n], &mut out);
-    let k = printed_len(printed);
+    let k = cell_input(&input[..n], &mut out).unwrap_or(0);
     rt.write_all(&out[..k])
 }

@@ -5,13 +5,12 @@
 
 use intake::fill;
 use std::io;
-use tollgilt::input::{ASKING, FOUND, find_input, printed_len};
+use tollgilt::input::{ASKING, FOUND, find_input};
 
 fn main(rt: HostRuntime) -> io::Result<()> {
     let mut input = [0u8; ASKING];
     let n = fill(&mut rt.stdin(), &mut input)?;
     let mut out = [0u8; FOUND];
-    let printed = find_input(&input[..n], &mut out);
-    let k = printed_len(printed);
+    let k = find_input(&input[..n], &mut out).unwrap_or(0);
     rt.write_all(&out[..k])
 }

@@ -6,13 +6,12 @@
 use intake::fill;
 use plan::Plan;
 use std::io;
-use tollgilt::input::{INPUT, list_input, printed_len};
+use tollgilt::input::{INPUT, list_input};
 
 fn main(rt: HostRuntime) -> io::Result<()> {
     let mut input = [0u8; INPUT];
     let n = fill(&mut rt.stdin(), &mut input)?;
     let mut out = [0u8; Plan::LISTING];
-    let printed = list_input(&input[..n], &mut out);
-    let k = printed_len(printed);
+    let k = list_input(&input[..n], &mut out).unwrap_or(0);
     rt.write_all(&out[..k])
 }

@@ -1,5 +1,4 @@
 // A printed cell, for the tests.
-use cell::answer::{Answer, refusal_number, source_number};
 use cell::{cell_answer, cell_text};
 use room::lay;
 
@@ -35,25 +34,21 @@ pub extern "C" fn probe_cell<'a>(
     which: usize,
     told: &mut [usize; 6],
 ) -> u32 {
-    let a = cell_answer(rows, count, text, catalogue, row, field, which);
-    match a {
-        Answer::Shown(s) => {
-            let source = s.source;
-            told[0] = source_number(source) as usize;
-            told[1] = s.at;
-            told[2] = s.len;
-            told[3] = s.more as usize;
-            told[4] = s.zero as usize;
-            told[5] = s.omitted;
+    match cell_answer(rows, count, text, catalogue, row, field, which) {
+        Ok(s) => {
+            *told = [
+                s.source.number() as usize,
+                s.at,
+                s.len,
+                s.more as usize,
+                s.zero as usize,
+                s.omitted,
+            ];
+            0
         }
-        Answer::NoCell => {
-            told[0] = 0;
-            told[1] = 0;
-            told[2] = 0;
-            told[3] = 0;
-            told[4] = 0;
-            told[5] = 0;
+        Err(refusal) => {
+            told.fill(0);
+            refusal.number()
         }
     }
-    refusal_number(a)
 }

@@ -1,12 +1,11 @@
 // The collector, for the tests. Its value crosses the border as its fields: the pages, their lengths, and two numbers, the count of pages and the number
 // of the first.
 use crate::tell_reading;
-use collector::adding::{Answer, add};
+use collector::adding::{Kept, add};
 use collector::lacks::{lowest_missing, missing_count, missing_numbers};
 use collector::reading::read;
 use collector::store::{Collector, clear};
 use plan::Plan;
-use reader::answer::{refusal_number, refusal_page, refusal_place};
 
 // The collector with these fields.
 pub fn collector_of<'a>(
@@ -14,11 +13,9 @@ pub fn collector_of<'a>(
     lens: &'a [u16; 9],
     numbers: &'a [u8; 2],
 ) -> Collector {
-    let p = *pages;
-    let l = *lens;
     Collector {
-        pages: p,
-        lens: l,
+        pages: *pages,
+        lens: *lens,
         z: numbers[0],
         first: numbers[1],
     }
@@ -26,6 +23,7 @@ pub fn collector_of<'a>(
 
 // The fields of a collector.
 fn put(c: Collector, pages: &mut [u8; Plan::PAGES], lens: &mut [u16; 9], numbers: &mut [u8; 2]) {
+    // Tried without a variable for each array, and the proof didn't close: the borrow checker does not cover it.
     let p = c.pages;
     let l = c.lens;
     *pages = p;
@@ -47,21 +45,19 @@ pub extern "C" fn probe_add(
 ) -> u32 {
     let c = collector_of(pages, lens, numbers);
     let r = add(c, buffer, start, len);
-    let answer = r.answer;
-    let after = r.collector;
-    put(after, pages, lens, numbers);
-    match answer {
-        Answer::Added => 0,
-        Answer::AlreadyHere => 20,
-        Answer::Refused(refusal) => {
-            told[0] = refusal_page(refusal);
-            told[1] = refusal_place(refusal);
-            refusal_number(refusal)
+    put(r.collector, pages, lens, numbers);
+    match r.answer {
+        Ok(Kept::Added) => 0,
+        Ok(Kept::AlreadyHere) => 20,
+        Err(refusal) => {
+            told[0] = refusal.page();
+            told[1] = refusal.place();
+            refusal.number()
         }
     }
 }
 
-// The mask of the missing numbers, how many they are, and the lowest.
+// The mask of the missing numbers, how many they are, and the lowest; 0 where none is missing.
 #[unsafe(no_mangle)]
 pub extern "C" fn probe_missing<'a>(
     pages: &'a [u8; Plan::PAGES],
@@ -72,7 +68,7 @@ pub extern "C" fn probe_missing<'a>(
     let c = collector_of(pages, lens, numbers);
     told[0] = missing_numbers(c) as u32;
     told[1] = missing_count(c);
-    told[2] = lowest_missing(c);
+    told[2] = lowest_missing(c).unwrap_or(0);
 }
 
 // Reads the collected pages, and answers as `probe_read`.
@@ -86,8 +82,7 @@ pub extern "C" fn probe_collected<'a>(
     told: &mut [u32; 58],
 ) -> u32 {
     let c = collector_of(pages, lens, numbers);
-    let r = read(c, rows, text);
-    tell_reading(r, told)
+    tell_reading(read(c, rows, text), told)
 }
 
 // Makes a collector empty.

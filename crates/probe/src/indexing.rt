@@ -1,19 +1,23 @@
 // The index of package numbers, for the tests.
 use crate::collecting::collector_of;
 use crate::tell_reading;
-use index::answer::{Built, Nth, Reply, built_number, nth_number, reply_number};
+use index::answer::{Held, Nth, Refusal};
 use index::ask::{all, first, nth};
 use index::build::build;
-use index::reading::{read, read_collected};
+use index::reading::{Indexed, read, read_collected};
 use plan::Plan;
 
-// What is told of rows that hold a number: how many, and the first; 0 and 0 where there is none.
-fn tell_reply(reply: Reply, told: &mut [u32; 2]) -> u32 {
-    if let Reply::Held { first, count } = reply {
-        told[0] = count;
-        told[1] = first;
+// What is told of rows that hold a number: how many, and the first. None does where `told` stays as it was.
+fn tell_held(held: Result<Option<Held>, Refusal>, told: &mut [u32; 2]) -> u32 {
+    match held {
+        Ok(Some(held)) => {
+            told[0] = held.count;
+            told[1] = held.first;
+            0
+        }
+        Ok(None) => 0,
+        Err(refusal) => refusal.number(),
     }
-    reply_number(reply)
 }
 
 // Builds the index of rows: the number of the refusal, 0 for an index; in `told` how many pairs it has.
@@ -24,11 +28,13 @@ pub extern "C" fn probe_build(
     index: &mut [u32],
     told: &mut [u32; 1],
 ) -> u32 {
-    let built = build(rows, count, index);
-    if let Built::Pairs(pairs) = built {
-        told[0] = pairs;
+    match build(rows, count, index) {
+        Ok(pairs) => {
+            told[0] = pairs;
+            0
+        }
+        Err(refusal) => refusal.number(),
     }
-    built_number(built)
 }
 
 // The first row that holds a number: the number of the refusal; in `told` how many rows hold it, and the first. None does where `told` stays as it was.
@@ -41,8 +47,7 @@ pub extern "C" fn probe_first<'a>(
     number: u32,
     told: &mut [u32; 2],
 ) -> u32 {
-    let reply = first(rows, count, index, length, number);
-    tell_reply(reply, told)
+    tell_held(first(rows, count, index, length, number), told)
 }
 
 // The k-th row that holds a number: the number of the refusal; in `told` 0 where the number is not on the plan, 1 where it has no k-th row, 2 for a row, and that
@@ -57,22 +62,22 @@ pub extern "C" fn probe_nth<'a>(
     k: u32,
     told: &mut [u32; 2],
 ) -> u32 {
-    let answer = nth(rows, count, index, length, number, k);
-    match answer {
-        Nth::NoRoom => {}
-        Nth::OtherIndex => {}
-        Nth::Absent => {
+    match nth(rows, count, index, length, number, k) {
+        Ok(Nth::Absent) => {
             told[0] = 0;
+            0
         }
-        Nth::None => {
+        Ok(Nth::None) => {
             told[0] = 1;
+            0
         }
-        Nth::Row(row) => {
+        Ok(Nth::Row(row)) => {
             told[0] = 2;
             told[1] = row;
+            0
         }
+        Err(refusal) => refusal.number(),
     }
-    nth_number(answer)
 }
 
 // All rows that hold a number, laid into `list`; told as by `probe_first`.
@@ -86,8 +91,25 @@ pub extern "C" fn probe_all<'a>(
     list: &mut [u32],
     told: &mut [u32; 2],
 ) -> u32 {
-    let reply = all(rows, count, index, length, number, list);
-    tell_reply(reply, told)
+    tell_held(all(rows, count, index, length, number, list), told)
+}
+
+// What reading with the index gave: as of a reading, and in `pairs` how many pairs the index has; a refusal has none.
+fn tell_indexed(
+    indexed: Result<Indexed, reader::answer::Refusal>,
+    told: &mut [u32; 58],
+    pairs: &mut [u32; 1],
+) -> u32 {
+    match indexed {
+        Ok(x) => {
+            pairs[0] = x.pairs;
+            tell_reading(Ok(x.plan), told)
+        }
+        Err(refusal) => {
+            pairs[0] = 0;
+            tell_reading(Err(refusal), told)
+        }
+    }
 }
 
 // Reads a call with its index, and answers as `probe_read`; in `pairs` how many pairs the index has.
@@ -102,10 +124,7 @@ pub extern "C" fn probe_indexed<'a>(
     told: &mut [u32; 58],
     pairs: &mut [u32; 1],
 ) -> u32 {
-    let indexed = read(buffer, starts, lens, rows, text, index);
-    pairs[0] = indexed.pairs;
-    let reading = indexed.reading;
-    tell_reading(reading, told)
+    tell_indexed(read(buffer, starts, lens, rows, text, index), told, pairs)
 }
 
 // Reads the collected pages with their index, and answers as `probe_indexed`.
@@ -121,8 +140,5 @@ pub extern "C" fn probe_collected_indexed<'a>(
     pairs: &mut [u32; 1],
 ) -> u32 {
     let c = collector_of(pages, lens, numbers);
-    let indexed = read_collected(c, rows, text, index);
-    pairs[0] = indexed.pairs;
-    let reading = indexed.reading;
-    tell_reading(reading, told)
+    tell_indexed(read_collected(c, rows, text, index), told, pairs)
 }

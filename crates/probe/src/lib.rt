@@ -15,13 +15,12 @@ use fields::dose::is_zero;
 use fields::lookup::{child, count_of, field, first_of, rule_of};
 use fields::places::FIELDS;
 use fields::rules::keeps_field;
-use markup::scan::{Extent, scan};
+use markup::scan::scan;
 use markup::values::{decode, spell};
 use markup::walk::{Mark, Piece, next_attr, next_tag};
 use plan::{Plan, Span};
-use reader::answer::{refusal_number, refusal_page, refusal_place};
 use reader::reading::{Reading, read};
-use sheet::judge::{Verdict, judge_page};
+use sheet::judge::judge_page;
 
 // The class of a byte as a number.
 #[unsafe(no_mangle)]
@@ -45,10 +44,9 @@ pub extern "C" fn probe_scan(page: &[u8]) -> usize {
     if page.len() > Plan::PAGE {
         return 3000;
     }
-    let extent = scan(page);
-    match extent {
-        Extent::Whole => 2000,
-        Extent::Good(n) => n,
+    match scan(page) {
+        Ok(()) => 2000,
+        Err(n) => n,
     }
 }
 
@@ -76,18 +74,17 @@ pub extern "C" fn probe_next_tag(page: &[u8], at: usize, told: &mut [usize; 2]) 
     if at > page.len() {
         return 0;
     }
-    let mark = next_tag(page, at);
-    match mark {
-        Mark::Start { at: i, name_end } => {
+    match next_tag(page, at) {
+        Some(Mark::Start { at: i, name_end }) => {
             told[0] = i;
             told[1] = name_end;
             1
         }
-        Mark::End { at: i } => {
+        Some(Mark::End { at: i }) => {
             told[0] = i;
             2
         }
-        Mark::Nothing => 0,
+        None => 0,
     }
 }
 
@@ -97,14 +94,8 @@ pub extern "C" fn probe_next_attr(page: &[u8], at: usize, told: &mut [usize; 4])
     if at > page.len() {
         return 0;
     }
-    let piece = next_attr(page, at);
-    match piece {
-        Piece::Stop { shut } => {
-            if shut {
-                return 1;
-            }
-            0
-        }
+    match next_attr(page, at) {
+        Piece::Stop { shut } => shut as u8,
         Piece::Attribute {
             name_at,
             name_end,
@@ -161,38 +152,41 @@ pub extern "C" fn probe_keeps(id: usize, value: &[u8]) -> u8 {
 #[unsafe(no_mangle)]
 pub extern "C" fn probe_judge(page: &[u8], told: &mut [usize; 1]) -> u8 {
     let mut scratch = [0u8; Plan::PAGE];
-    let verdict = judge_page(page, &mut scratch);
-    match verdict {
-        Verdict::Refused { number, place } => {
-            told[0] = place as usize;
-            number
+    match judge_page(page, &mut scratch) {
+        Err(refusal) => {
+            told[0] = refusal.place as usize;
+            refusal.cause.number()
         }
-        Verdict::Fine => 0,
+        Ok(()) => 0,
     }
 }
 
 // The start and the length of each of the head's 27 spans, from place 4 on.
 fn tell_spans(head: [Span; 27], told: &mut [u32; 58]) {
-    let mut j = 0;
-    while j < 27 {
-        let s = head[j];
+    for (j, s) in head.iter().enumerate() {
         told[4 + 2 * j] = s.at;
         told[5 + 2 * j] = s.len;
-        j += 1;
     }
 }
 
 // What reading gave: the number of the refusal, 0 for a plan; in `told` its page and place, the plan's patch and its number of rows, and the head's spans.
 pub fn tell_reading(r: Reading, told: &mut [u32; 58]) -> u32 {
-    let answer = r.answer;
-    let plan = r.plan;
-    told[0] = refusal_page(answer);
-    told[1] = refusal_place(answer);
+    let plan = r.unwrap_or(Plan::empty());
     told[2] = plan.patch;
     told[3] = plan.rows;
-    let head = plan.head;
-    tell_spans(head, told);
-    refusal_number(answer)
+    tell_spans(plan.head, told);
+    match r {
+        Ok(_) => {
+            told[0] = 0;
+            told[1] = 0;
+            0
+        }
+        Err(refusal) => {
+            told[0] = refusal.page();
+            told[1] = refusal.place();
+            refusal.number()
+        }
+    }
 }
 
 // Reads a call: the number of the refusal, 0 for a plan; in `told` its page and place, the plan's patch and its number of rows, and the head's spans.
@@ -205,6 +199,5 @@ pub extern "C" fn probe_read<'a>(
     text: &mut [u8],
     told: &mut [u32; 58],
 ) -> u32 {
-    let r = read(buffer, starts, lens, rows, text);
-    tell_reading(r, told)
+    tell_reading(read(buffer, starts, lens, rows, text), told)
 }

@@ -1,34 +1,20 @@
 // Writing, for the tests.
 use plan::{Plan, Span};
-use writer::answer::{outcome_number, outcome_place};
 use writer::writing::write;
 
 // A plan in numbers: the patch, the number of rows, and the start and the length of each of the head's 27 spans.
 fn plan_of(numbers: &[u32; 56]) -> Plan {
-    let none = Span { at: 0, len: 0 };
-    let mut head = [none; 27];
-    let mut j = 0;
-    while j < 27 {
-        let s = Span {
+    let mut head = [Span { at: 0, len: 0 }; 27];
+    for (j, s) in head.iter_mut().enumerate() {
+        *s = Span {
             at: numbers[2 + 2 * j],
             len: numbers[3 + 2 * j],
         };
-        head[j] = s;
-        j += 1;
     }
     Plan {
         patch: numbers[0],
         rows: numbers[1],
-        head: head,
-    }
-}
-
-// The lengths of pages, from place 2 on.
-fn tell_lens(lens: [u32; 9], told: &mut [u32; 11]) {
-    let mut k = 0;
-    while k < 9 {
-        told[2 + k] = lens[k];
-        k += 1;
+        head,
     }
 }
 
@@ -41,12 +27,17 @@ pub extern "C" fn probe_write(
     out: &mut [u8],
     told: &mut [u32; 11],
 ) -> u32 {
-    let plan = plan_of(numbers);
-    let w = write(plan, rows, text, out);
-    let answer = w.answer;
-    let lens = w.lens;
-    told[0] = outcome_place(answer);
-    told[1] = w.pages;
-    tell_lens(lens, told);
-    outcome_number(answer)
+    match write(plan_of(numbers), rows, text, out) {
+        Ok(pages) => {
+            told[0] = 0;
+            told[1] = pages.count;
+            told[2..].copy_from_slice(&pages.lens);
+            0
+        }
+        Err(refusal) => {
+            told.fill(0);
+            told[0] = refusal.place();
+            refusal.number()
+        }
+    }
 }

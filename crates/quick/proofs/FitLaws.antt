@@ -16,7 +16,7 @@ use Rattle.paper.specs.Fields.{Kind, unknown, MP, P, A, O, S, M, W, R, X, editio
 use Rattle.paper.specs.Rules.{keeps}
 use Rattle.paper.specs.Plan.{Slots}
 use Rattle.paper.specs.Judging.{names, slots_of, breaks, clash}
-use Rattle.paper.proofs.Small.{no, neither}
+use Rattle.paper.proofs.Small.{no}
 use Rattle.paper.proofs.Small as Small
 use Rattle.fields.specs.Places.{kind_at}
 use Rattle.fields.proofs.TableLaws.{code_back}

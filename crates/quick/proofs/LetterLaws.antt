@@ -8,16 +8,13 @@ use native.Mathlib.Omega.{arith}
 use lib.Dec.{eqb, ltb}
 use lib.ListN.{length, get_or, drop}
 use lib.Seq.{slice}
-use mir.Val.{Fits}
-use mir.Syntax.{w64}
-use borrow.Author.Tests.{eqb-true, ltb-true, lt-ltb, ne_eqb}
+use borrow.Author.Tests.{eqb-true, ltb-true, lt-ltb}
 use Rattle.paper.specs.Lists.{if, until}
 use Rattle.paper.specs.Bytes.{is_space, is_letter}
 use Rattle.paper.specs.Grammar.{Attrs, Quote, double, single, is_name_byte}
 use Rattle.paper.specs.Fields.{Kind, fields_of}
 use Rattle.paper.proofs.Small.{below, below_at, both}
 use Rattle.fields.specs.Places.{kind_at, place_in, first_of, count_of}
-use Rattle.fields.proofs.ColumnLaws.{fits_entry}
 use Rattle.room.proofs.Runs.{run_ends, run_on}
 use Rattle.quoted.specs.Raws.{RawAt}
 use Rattle.quick.specs.Letters.{letter_table, LetterAt}
@@ -43,11 +40,6 @@ rows = refl
 
 row_at : (k b : ℕ) → k < 10 → b < 128 → right k b ≡ true
 row_at k b h l = below_at 128 (right k) (below_at 10 (λ (n : ℕ). below 128 (right n)) rows k h) b l
-
--- every entry is a small number
-pub entry_low : (n : ℕ) → Fits w64 (get_or letter_table n 0)
-unfolding letter_table
-entry_low n = fits_entry letter_table n refl
 
 pub count_entry : (k : ℕ) → k < 10 → get_or letter_table (k * 128) 0 ≡ 128 + count_of (kind_at k)
 unfolding right
@@ -93,10 +85,6 @@ letter_found w k a b t h e q eq qu l s =
     let s' : get_or letter_table (k * 128 + b) 0 < 128 = rw e at s in
     let x = letter_entry k b h l s' in
     record { letter = rw q at x.0; equals = eq; quoted = qu; field = rw (e, ← q) x.1; known = rw e x.2 }
-
--- a byte above 32 is no space
-pub high_mark : (c : ℕ) → 32 < c → is_space c ≡ false
-high_mark c h = rw (ne_eqb c 32 (λ z. omega arith), ne_eqb c 9 (λ z. omega arith), ne_eqb c 10 (λ z. omega arith), ne_eqb c 13 (λ z. omega arith))
 
 no_space : (q : ℕ) → Quote q → is_space q ≡ false
 no_space q double = refl

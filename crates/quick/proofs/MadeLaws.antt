@@ -5,7 +5,7 @@ use mathlib.Core.Bool.{Bool, false}
 use mathlib.Core.List.{List, [], ◌∷◌, ◌++◌, append_assoc, append-nil}
 use Prim.Native.Nat.{ℕ, ◌+◌, ◌*◌, ◌-◌, ◌≤◌, ◌<◌}
 use native.Mathlib.Omega.{arith}
-use lib.ListN.{length, get_or, take, drop}
+use lib.ListN.{length, get_or, drop}
 use lib.Seq.{slice}
 use Rattle.paper.specs.Lists.{until}
 use Rattle.paper.specs.Bytes.{is_space}
@@ -132,26 +132,6 @@ module _ {w t₀ t side₀ side : List ℕ} {m₀ m first f i : ℕ} {st : State
         kept = record { tape = H.before; aside_too = H.grown.same };
         up = H.grown.up;
       }
-
--- the same from where a loop begins
-pub on_here : {w t₀ t side₀ side : List ℕ} {m₀ m first f i : ℕ} {st : State} → On w t₀ t side₀ side m₀ m first f i st → On w t t side side m₀ m first f i st
-on_here H = record {
-  said = H.said;
-  within = H.within;
-  so_far = H.so_far;
-  judged = H.judged;
-  sound = H.sound;
-  lies = H.lies;
-  near = H.near;
-  before = refl;
-  grown = record { same = refl; up = H.grown.up };
-  room = H.room;
-  up = H.up;
-  long = (refl, refl);
-}
-
-pub makes_from : {w t₀ t₁ t side₀ side₁ side : List ℕ} {m₀ m first f : ℕ} → take first t₁ ≡ take first t₀ → take m₀ side₁ ≡ take m₀ side₀ → Makes w t₁ t first f side₁ side m₀ m → Makes w t₀ t first f side₀ side m₀ m
-makes_from a b X = record { taped = X.taped; kept = record { tape = X.kept.tape ∙ a; aside_too = X.kept.aside_too ∙ b }; up = X.up }
 
 -- ---- the page's element begins
 

@@ -207,16 +207,3 @@ module _ {w : List ℕ} {k : Kind} {base from i : ℕ} {t₀ t side₀ side : Li
         grown = H.grown;
         room = H.room.0;
       }
-
--- the same from a tape that was cleared first
-pub inside_from_lem : {w : List ℕ} {k : Kind} {base i r : ℕ} {t₀ t₁ t side₀ side : List ℕ} {m₀ m : ℕ} → take base t₁ ≡ take base t₀ → InsideIn w k base i r t₁ t side₀ side m₀ m → InsideIn w k base i r t₀ t side₀ side m₀ m
-inside_from_lem e I = record {
-  said = I.said;
-  within = I.within;
-  derives = I.derives;
-  holds = I.holds;
-  near = I.near;
-  before = I.before ∙ e;
-  grown = I.grown;
-  room = I.room;
-}

@@ -1,7 +1,7 @@
 -- StepLaws: one start tag more: in the grammar, in the state, and on the tape.
 -- Assumes nothing.
 use mathlib.Core.Path.{◌≡◌, refl, sym, ap, ◌∙◌, subst}
-use mathlib.Core.Bool.{Bool, false}
+use mathlib.Core.Bool.{Bool, true, false}
 use mathlib.Core.List.{List, [], ◌∷◌, ◌++◌}
 use Prim.Native.Nat.{ℕ, ◌+◌, ◌-◌, ◌≤◌, ◌<◌}
 use native.Mathlib.Omega.{arith}
@@ -9,7 +9,7 @@ use lib.Dec.{eqb}
 use lib.ListN.{length, get_or, drop, length-drop}
 use lib.Seq.{slice}
 use borrow.Author.Tests.{eqb-true}
-use Rattle.paper.specs.Lists.{until}
+use Rattle.paper.specs.Lists.{if, until}
 use Rattle.paper.specs.Bytes.{is_space}
 use Rattle.paper.specs.Grammar.{Attr, Tag, start, end, Rest, Name, placed}
 use Rattle.paper.specs.Fields.{Kind, code, fields_of}
@@ -18,11 +18,12 @@ use Rattle.paper.proofs.Small.{below_at}
 use Rattle.fields.specs.Places.{kind_at}
 use Rattle.fields.proofs.TableLaws.{code_back}
 use Rattle.sheet.specs.Fold.{St, kind_under, barred, opened, closed, parent, judge_fold}
-use Rattle.sheet.specs.Judged.{st_of, Sound}
+use Rattle.sheet.specs.Judged.{st_of, Sound, left}
 use Rattle.sheet.specs.Content.{kind_named}
 use Rattle.sheet.specs.declared.state.State.{State}
 use Rattle.sheet.proofs.FoldJudge.{fold_start}
 use Rattle.sheet.proofs.JudgeLaws.{on_end}
+use Rattle.quoted.proofs.Pieces.{in_it}
 use Rattle.quick.specs.Passed.{InsideAt, parent_of, Kid}
 use Rattle.tape.specs.Tape.{Elem, elem, starts_of, ElemAt, Lies}
 use Rattle.quick.specs.Taken.{TagIn}
@@ -134,3 +135,12 @@ module _ (st : State) {w : List ℕ} {i s x b k f next : ℕ} {t t' side side' :
         grown = T.grown;
         room = T.room;
       }
+
+  -- a tag that closes itself or not, as `shut` tells
+  pub step_either : (shut : Bool) (y : ℕ) (st' : State) → eqb (get_or w x 0) 47 ≡ shut → y ≡ if shut (x + 1) x → get_or w y 0 ≡ 62
+      → st_of st' ≡ left shut (opened (st_of st) (kind_at k) s T.said) → Sound st' → StepIn w i (y + 1) st st' t t' f next side side' m m'
+  step_either true y st' c h q e so =
+      let l : x + 1 < length w = in_it w (x + 1) (λ z. omega (arith, z, rw h at q)) in
+      let z : x + 1 + 1 ≡ x + 2 = omega arith in
+      rw (h, z) (step_shut st' (eqb-true (get_or w x 0) 47 c) l (rw h at q) e so)
+  step_either false y st' c h q e so = rw h (step_open st' (rw h at q) e so)

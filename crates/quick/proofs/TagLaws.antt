@@ -13,7 +13,7 @@ use Rattle.paper.specs.Grammar.{Tag, start, end, Rest, Page, space, bare, full, 
 use Rattle.fields.specs.Places.{kind_at}
 use Rattle.sheet.specs.Fold.{kind_under, kids_of}
 use Rattle.sheet.specs.Content.{kind_named}
-use Rattle.quick.specs.Passed.{InsideAt, parent_of, open_names, Kid, NameAt}
+use Rattle.quick.specs.Passed.{InsideAt, open_names, Kid, NameAt}
 use Rattle.quoted.proofs.Pieces.{all_run}
 
 -- ---- the rest of a page from a place on
@@ -146,9 +146,3 @@ name_mp w i c z h e f =
     let v : slice (i + 1) (i + 2) w ≡ 80 ∷ [] = ap (λ (m : ℕ). slice (i + 1) m w) (sym y) ∙ letter_at w (i + 1) 80 h f in
     let u : slice i (i + 2) w ≡ 77 ∷ 80 ∷ [] = slice-cons i (i + 2) w 0 (omega arith) (omega arith) ∙ rw (e, ← add-one i, v) in
     record { within = (omega arith, omega arith); name = rw u (refl, (refl, tt)); names = rw (z, u) }
-
--- an element of one letter stands here
-pub name_letter : (w : List ℕ) (i c b k : ℕ) → i < length w → get_or w i 0 ≡ b → Kid (parent_of c) b k → k ≡ c → NameAt w i c (i + 1)
-name_letter w i c b k h e K z =
-    let u = letter_at w i b h e in
-    record { within = (omega arith, omega arith); name = rw u (K.letter, tt); names = ap open_names (sym z) ∙ K.names ∙ ap (λ (y : List ℕ). y ∷ open_names (parent_of c)) (sym u) }

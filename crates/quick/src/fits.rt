@@ -9,12 +9,9 @@ ghost use Rattle.sheet.specs.Fold.{needs_w};
 ghost use Rattle.tape.specs.Tape.{shown_in, Span, Spans, Holds};
 ghost use Rattle.quick.specs.Fits as Spec;
 
-use fields::places::{A, M, MP, P};
+use fields::places::{A, M, MP, P, R, W, X};
 use quoted::value::ASIDE;
 use sheet::flaws::{clashes, digits_flaw};
-
-// The number that stands for no fault.
-const NONE: u8 = 9;
 
 // Whether field `j` of the slots that begin at `base` has a value that counts.
 fn is_there(tape: &[u16], base: usize, j: usize) -> bool
@@ -35,10 +32,7 @@ fn first_byte(page: &[u8], side: &[u8], tape: &[u16], s: usize) -> u8
     if a == b {
         return 0;
     }
-    if a < ASIDE {
-        return page[a];
-    }
-    side[a - ASIDE]
+    if a < ASIDE { page[a] } else { side[a - ASIDE] }
 }
 
 // Whether v and U of MP are there, and a and z are a page of so many, or neither is there.
@@ -46,15 +40,12 @@ fn plan_fits(page: &[u8], tape: &[u16], base: usize, side: &[u8]) -> bool
     requires { (base + 12 ≤ length tape.now) × (length tape.now < 65536) × Spans page.now (length side.now) 6 tape.now base }
     ensures { result ≡ true → Spec.Fits page.now side.now Kinds.MP tape.now base }
 {
-    if !is_there(tape, base, 0) {
-        return false;
-    }
-    if !is_there(tape, base, 2) {
+    if !is_there(tape, base, 0) || !is_there(tape, base, 2) {
         return false;
     }
     let a = first_byte(page, side, tape, base + 8);
     let z = first_byte(page, side, tape, base + 10);
-    digits_flaw(a, z) == NONE
+    digits_flaw(a, z).is_none()
 }
 
 // Whether g, f and b of P are there.
@@ -62,13 +53,7 @@ fn person_fits(tape: &[u16], base: usize) -> bool
     requires { (base + 16 ≤ length tape.now) × (length tape.now < 65536) }
     ensures { result ≡ (Spec.present tape.now base 0 && (Spec.present tape.now base 1 && Spec.present tape.now base 2)) }
 {
-    if is_there(tape, base, 0) {
-        if is_there(tape, base, 1) {
-            return is_there(tape, base, 2);
-        }
-        return false;
-    }
-    false
+    is_there(tape, base, 0) && is_there(tape, base, 1) && is_there(tape, base, 2)
 }
 
 // Whether n and t of A are there.
@@ -76,10 +61,7 @@ fn author_fits(tape: &[u16], base: usize) -> bool
     requires { (base + 20 ≤ length tape.now) × (length tape.now < 65536) }
     ensures { result ≡ (Spec.present tape.now base 3 && Spec.present tape.now base 9) }
 {
-    if is_there(tape, base, 3) {
-        return is_there(tape, base, 9);
-    }
-    false
+    is_there(tape, base, 3) && is_there(tape, base, 9)
 }
 
 // Whether the fields of an element go together.
@@ -91,19 +73,13 @@ pub fn tag_fits(page: &[u8], kind: u8, tape: &[u16], base: usize, side: &[u8]) -
     if clashes(kind, tape, base) {
         return false;
     }
-    if kind == MP {
-        return plan_fits(page, tape, base, side);
+    match kind {
+        MP => plan_fits(page, tape, base, side),
+        P => person_fits(tape, base),
+        A => author_fits(tape, base),
+        W | R | X => is_there(tape, base, 0),
+        _ => true,
     }
-    if kind == P {
-        return person_fits(tape, base);
-    }
-    if kind == A {
-        return author_fits(tape, base);
-    }
-    if kind > M {
-        return is_there(tape, base, 0);
-    }
-    true
 }
 
 // Whether an element is an M that has neither p nor a.
@@ -111,11 +87,5 @@ pub fn needs_w(kind: u8, tape: &[u16], base: usize) -> bool
     requires { (kind < kind_count) × (base + 2 * length (fields_of (kind_at kind)) ≤ length tape.now) × (length tape.now < 65536) }
     ensures { (w side : List ℕ) (l : List Attr) → Holds w side (length side) (kind_at kind) tape.now base l → result ≡ needs_w (kind_at kind) (slots_of (fields_of (kind_at kind)) l) }
 {
-    if kind != M {
-        return false;
-    }
-    if is_there(tape, base, 0) {
-        return false;
-    }
-    !is_there(tape, base, 1)
+    kind == M && !is_there(tape, base, 0) && !is_there(tape, base, 1)
 }

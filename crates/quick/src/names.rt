@@ -1,5 +1,5 @@
 // What is looked up by an element alone, or by an element and one letter, in one table that a caller copies once.
-ghost use Rattle.std.specs.Prelude.{◌≡◌, ◌+◌, ◌≤◌, ◌<◌, length};
+ghost use Rattle.std.specs.Prelude.{◌≡◌, ◌+◌, ◌≤◌, ◌<◌, length, IfSome};
 ghost use Rattle.paper.specs.Fields.{fields_of};
 ghost use Rattle.paper.specs.Sizes.{page_bytes};
 ghost use Rattle.fields.specs.Places.{kind_at, place_in, first_of, count_of, field_count, kind_count};
@@ -15,7 +15,7 @@ use room::byte_or;
 const ROW: usize = 128;
 
 // From here on a number of the table is no place of a field.
-pub const NO_PLACE: usize = 128;
+const NO_PLACE: usize = 128;
 
 // The table, for a caller that copies it once.
 pub fn letter_table() -> [u8; 1280]
@@ -50,20 +50,19 @@ pub fn field_by(keys: &[u64], letters: &[u8; 1280], kind: u8, name: &[u8]) -> us
     find(keys, first, first + count, key(name))
 }
 
-// The place among an element's fields of the one whose name is the letter at `a`, if `=` and a quote follow at once; else 128 or more.
-pub fn letter_place(page: &[u8], a: usize, kind: u8, letters: &[u8; 1280]) -> usize
+// The place among an element's fields of the one whose name is the letter at `a`, if `=` and a quote follow at once.
+pub fn letter_place(page: &[u8], a: usize, kind: u8, letters: &[u8; 1280]) -> Option<usize>
     requires { (a ≤ length page.now) × (length page.now ≤ page_bytes) × (kind < kind_count) × (letters.now ≡ letter_table) }
-    ensures { result < 128 → LetterAt page.now (kind_at kind) a result }
+    ensures { IfSome result (λ j. LetterAt page.now (kind_at kind) a j) }
 {
-    if byte_or(page, a + 1) != 61 {
-        return NO_PLACE;
-    }
-    if is_quote(byte_or(page, a + 2)) {
+    if byte_or(page, a + 1) == b'=' && is_quote(byte_or(page, a + 2)) {
         let b = byte_or(page, a);
-        if b > 127 {
-            return NO_PLACE;
+        if b < 128 {
+            let j = letters[kind as usize * ROW + b as usize] as usize;
+            if j < NO_PLACE {
+                return Some(j);
+            }
         }
-        return letters[kind as usize * ROW + b as usize] as usize;
     }
-    NO_PLACE
+    None
 }

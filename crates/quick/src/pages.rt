@@ -1,5 +1,5 @@
 // A page onto the tape: its elements in order, if it is surely a sheet.
-ghost use Rattle.std.specs.Prelude.{◌≡◌, List, ℕ, ◌+◌, ◌*◌, ◌≤◌, ◌<◌, length, drop, get_or, set};
+ghost use Rattle.std.specs.Prelude.{◌≡◌, List, ℕ, ◌+◌, ◌*◌, ◌≤◌, ◌<◌, length, drop, get_or, set, IfSome};
 ghost use Rattle.paper.specs.Lists.{until};
 ghost use Rattle.paper.specs.Bytes.{is_space};
 ghost use Rattle.paper.specs.Sizes.{page_bytes};
@@ -18,15 +18,13 @@ use crate::take::{put, spaces_end, take_attrs};
 use fields::places::{FIELDS, MP};
 use room::byte_or;
 use sheet::state::{State, bars, before, close, enter, finish};
+use tape::exact::Made;
 
 // How many numbers stand before an element's values on the tape.
 const HEADER: usize = 3;
 
-// The number that stands for no fault.
-const NO_FAULT: u8 = 9;
-
-// A start tag taken: the place of its `>` or `/` (0: it is not surely fine), how many bytes of the side room are in use, where the next element begins on
-// the tape, and whether the element needs a W.
+// A start tag taken: the place of its `>` or `/`, how many bytes of the side room are in use, where the next element begins on the tape, and whether the
+// element needs a W.
 #[derive(Clone, Copy)]
 pub struct Tag {
     pub at: usize,
@@ -44,7 +42,7 @@ fn put_header(tape: &mut [u16], f: usize, kind: u8, place: usize, next: usize)
     tape[f + 2] = next as u16;
 }
 
-// Reads the start tag whose `<` stands at `p` and whose name ends at `from` onto the tape, as an element that begins at `f`.
+// Reads the start tag whose `<` stands at `p` and whose name ends at `from` onto the tape, as an element that begins at `f`, if it is surely fine.
 pub fn take_tag(
     page: &[u8],
     p: usize,
@@ -58,52 +56,33 @@ pub fn take_tag(
     f: usize,
     side: &mut [u8],
     used: usize,
-) -> Tag
+) -> Option<Tag>
     requires { (p < from) × (from ≤ length page.now) × (length page.now ≤ page_bytes) × (kind < kind_count) × Names keys.now letters.now × Tables odd.now limits.now
         × (f ≤ length tape.old) × (length tape.old < 65536) × (used ≤ length side.old) × (length side.old < aside) }
-    ensures { (result.at ≡ 0 → ⊥) → TagIn page.now (kind_at kind) f p from result.at tape.old tape.new side.old side.new used result.used result.next result.needs }
+    ensures { IfSome result (λ g. TagIn page.now (kind_at kind) f p from g.at tape.old tape.new side.old side.new used g.used g.next g.needs) }
 {
     let base = f + HEADER;
     let next = base + 2 * count_in(letters, kind);
     if next > tape.len() {
-        return Tag {
-            at: 0,
-            used: 0,
-            next: 0,
-            needs: false,
-        };
+        return None;
     }
     put_header(tape, f, kind, p, next);
     let taken = take_attrs(
         page, from, kind, keys, letters, odd, limits, tape, base, side, used,
-    );
-    if taken.at == 0 {
-        return Tag {
-            at: 0,
-            used: 0,
-            next: 0,
-            needs: false,
-        };
-    }
+    )?;
     if tag_fits(page, kind, tape, base, side) {
-        let needs = needs_w(kind, tape, base);
-        return Tag {
+        return Some(Tag {
             at: taken.at,
             used: taken.used,
-            next: next,
-            needs: needs,
-        };
+            next,
+            needs: needs_w(kind, tape, base),
+        });
     }
-    Tag {
-        at: 0,
-        used: 0,
-        next: 0,
-        needs: false,
-    }
+    None
 }
 
-// A start tag passed: the place behind it (0: it is not surely fine), where the next element begins on the tape, how many bytes of the side room are in use,
-// and what is then known of the page.
+// A start tag passed: the place behind it, where the next element begins on the tape, how many bytes of the side room are in use, and what is then known of
+// the page.
 #[derive(Clone, Copy)]
 struct Step {
     at: usize,
@@ -112,19 +91,7 @@ struct Step {
     st: State,
 }
 
-// No step.
-fn no_step(st: State) -> Step
-    ensures { result.at ≡ 0 }
-{
-    Step {
-        at: 0,
-        next: 0,
-        used: 0,
-        st: st,
-    }
-}
-
-// Passes the start tag whose `<` stands at `s` behind spaces from `i` on, where an element is open.
+// Passes the start tag whose `<` stands at `s` behind spaces from `i` on, where an element is open, if it is surely fine.
 fn take_start(
     page: &[u8],
     i: usize,
@@ -138,21 +105,14 @@ fn take_start(
     f: usize,
     side: &mut [u8],
     used: usize,
-) -> Step
+) -> Option<Step>
     requires { (s ≡ i + until is_space (drop i page.now)) × (i ≤ s) × (s < length page.now) × (get_or page.now s 0 ≡ 60) × (length page.now ≤ page_bytes) × Sound st × Names keys.now letters.now
         × Tables odd.now limits.now × (f ≤ length tape.old) × (length tape.old < 65536) × (used ≤ length side.old) × (length side.old < aside) }
-    ensures { (result.at ≡ 0 → ⊥) → StepIn page.now i result.at st result.st tape.old tape.new f result.next side.old side.new used result.used }
+    ensures { IfSome result (λ r. StepIn page.now i r.at st r.st tape.old tape.new f r.next side.old side.new used r.used) }
 {
-    let b = byte_or(page, s + 1);
-    if b == 0 {
-        return no_step(st);
-    }
-    let k = kid(st.cur, b);
-    if k == 0 {
-        return no_step(st);
-    }
+    let k = kid(st.cur, byte_or(page, s + 1))?;
     if bars(st, k) {
-        return no_step(st);
+        return None;
     }
     let tag = take_tag(
         page,
@@ -167,52 +127,35 @@ fn take_start(
         f,
         side,
         used,
-    );
-    let x = tag.at;
-    if x == 0 {
-        return no_step(st);
+    )?;
+    let shut = page[tag.at] == b'/';
+    let x = if shut { tag.at + 1 } else { tag.at };
+    if byte_or(page, x) != b'>' {
+        return None;
     }
-    if page[x] == 62 {
-        let inner = enter(st, k, s as u16, NO_FAULT, tag.needs, false);
-        return Step {
-            at: x + 1,
-            next: tag.next,
-            used: tag.used,
-            st: inner,
-        };
-    }
-    if page[x] != 47 {
-        return no_step(st);
-    }
-    if byte_or(page, x + 1) != 62 {
-        return no_step(st);
-    }
-    let outer = enter(st, k, s as u16, NO_FAULT, tag.needs, true);
-    Step {
-        at: x + 2,
+    Some(Step {
+        at: x + 1,
         next: tag.next,
         used: tag.used,
-        st: outer,
-    }
+        st: enter(st, k, s as u16, None, tag.needs, shut),
+    })
 }
 
-// The place behind the end tag of the open element whose `<` stands at `s`; 0 if another tag stands there.
-fn end_behind(page: &[u8], s: usize, cur: u8) -> usize
+// The place behind the end tag of the open element whose `<` stands at `s`, if no other tag stands there.
+fn end_behind(page: &[u8], s: usize, cur: u8) -> Option<usize>
     requires { (s + 1 < length page.now) × (length page.now ≤ page_bytes) × (cur ≡ 0 → ⊥) }
-    ensures { (result ≡ 0 → ⊥) → EndAt page.now s cur result }
+    ensures { IfSome result (λ r. EndAt page.now s cur r) }
 {
-    let n = name_behind(page, s + 2, cur);
-    if n == 0 {
-        return 0;
-    }
+    let n = name_behind(page, s + 2, cur)?;
     let g = spaces_end(page, n);
-    if byte_or(page, g) == 62 {
-        return g + 1;
+    if byte_or(page, g) == b'>' {
+        Some(g + 1)
+    } else {
+        None
     }
-    0
 }
 
-// Passes the start tag of a page's element, which must be MP.
+// Passes the start tag of a page's element, which must be MP, if it is surely fine.
 fn take_root(
     page: &[u8],
     keys: &[u64; FIELDS],
@@ -223,44 +166,28 @@ fn take_root(
     first: usize,
     side: &mut [u8],
     used: usize,
-) -> Step
+) -> Option<Step>
     requires { (1 ≤ length page.now) × (length page.now ≤ page_bytes) × Names keys.now letters.now × Tables odd.now limits.now
         × (first ≤ length tape.old) × (length tape.old < 65536) × (used ≤ length side.old) × (length side.old < aside) }
-    ensures { (result.at ≡ 0 → ⊥) → On page.now tape.old tape.new side.old side.new used result.used first result.next result.at result.st }
+    ensures { IfSome result (λ r. On page.now tape.old tape.new side.old side.new used r.used first r.next r.at r.st) }
 {
-    let outside = before();
     let p = spaces_end(page, 0);
-    if byte_or(page, p) != 60 {
-        return no_step(outside);
+    if byte_or(page, p) != b'<' {
+        return None;
     }
-    let e = name_behind(page, p + 1, MP);
-    if e == 0 {
-        return no_step(outside);
-    }
+    let e = name_behind(page, p + 1, MP)?;
     let tag = take_tag(
         page, p, e, MP, keys, letters, odd, limits, tape, first, side, used,
-    );
-    let x = tag.at;
-    if x == 0 {
-        return no_step(outside);
+    )?;
+    if page[tag.at] != b'>' {
+        return None;
     }
-    if page[x] != 62 {
-        return no_step(outside);
-    }
-    let st = enter(outside, MP, p as u16, NO_FAULT, tag.needs, false);
-    Step {
-        at: x + 1,
+    Some(Step {
+        at: tag.at + 1,
         next: tag.next,
         used: tag.used,
-        st: st,
-    }
-}
-
-// A page made: where its elements end on the tape (0: it is not surely a sheet), and how many bytes of the side room are then in use.
-#[derive(Clone, Copy)]
-pub struct Made {
-    pub end: usize,
-    pub used: usize,
+        st: enter(before(), MP, p as u16, None, tag.needs, false),
+    })
 }
 
 // Takes a page onto the tape, from `first` on, if it is surely a sheet.
@@ -274,49 +201,35 @@ pub fn take_page(
     first: usize,
     side: &mut [u8],
     used: usize,
-) -> Made
+) -> Option<Made>
     requires { (1 ≤ length page.now) × (length page.now ≤ page_bytes) × Names keys.now letters.now × Tables odd.now limits.now
         × (first ≤ length tape.old) × (length tape.old < 65536) × (used ≤ length side.old) × (length side.old < aside) }
-    ensures { (result.end ≡ 0 → ⊥) → Makes page.now tape.old tape.new first result.end side.old side.new used result.used
-        × (result.used ≤ used + length page.now) }
+    ensures { IfSome result (λ r. Makes page.now tape.old tape.new first r.end side.old side.new used r.used
+        × (r.used ≤ used + length page.now)) }
 {
-    let root = take_root(page, keys, letters, odd, limits, tape, first, side, used);
-    if root.at == 0 {
-        return Made { end: 0, used: 0 };
-    }
+    let root = take_root(page, keys, letters, odd, limits, tape, first, side, used)?;
     let mut st = root.st;
     let mut i = root.at;
     let mut f = root.next;
     let mut m = root.used;
     while st.cur != 0 {
         let s = spaces_end(page, i);
-        if byte_or(page, s) != 60 {
-            return Made { end: 0, used: 0 };
+        if byte_or(page, s) != b'<' {
+            return None;
         }
-        if byte_or(page, s + 1) == 47 {
-            let r = end_behind(page, s, st.cur);
-            if r == 0 {
-                return Made { end: 0, used: 0 };
-            }
+        if byte_or(page, s + 1) == b'/' {
+            i = end_behind(page, s, st.cur)?;
             st = close(st);
-            i = r;
         } else {
-            let step = take_start(page, i, s, st, keys, letters, odd, limits, tape, f, side, m);
-            if step.at == 0 {
-                return Made { end: 0, used: 0 };
-            }
+            let step = take_start(page, i, s, st, keys, letters, odd, limits, tape, f, side, m)?;
             st = step.st;
             i = step.at;
             f = step.next;
             m = step.used;
         }
     }
-    if spaces_end(page, i) != page.len() {
-        return Made { end: 0, used: 0 };
+    if spaces_end(page, i) == page.len() && finish(st).is_none() {
+        return Some(Made { end: f, used: m });
     }
-    let worst = finish(st);
-    if worst.number == NO_FAULT {
-        return Made { end: f, used: m };
-    }
-    Made { end: 0, used: 0 }
+    None
 }

@@ -23,7 +23,7 @@ use Rattle.quoted.specs.Coded.{OddAt, CodedAt}
 use Rattle.quoted.proofs.PlainLaws.{all_of, decoded_before}
 use Rattle.quoted.proofs.ValueLaws.{ordinary_decoded, ordinary_whole}
 use Rattle.quoted.proofs.Pieces.{part, one, none}
-use Rattle.quoted.proofs.RawLaws.{RawHeld, raw_held, rare_plain, ended, runs}
+use Rattle.quoted.proofs.RawLaws.{RawHeld, rare_plain, ended, runs}
 
 -- ---- a byte that is not ordinary
 
@@ -248,20 +248,6 @@ pub record Coding (w side₀ side : List ℕ) (from q m i n k : ℕ) : Type 0 wh
   pub clean : every is_decoded said ≡ true
   pub broken : count 126 said ≡ k
   pub short : n + from ≤ i + m
-
-pub coding_none : (w side : List ℕ) (from q m : ℕ) → from ≤ length w → m ≤ length side → Coding w side side from q m from m 0
-coding_none w side from q m h l = record {
-  said = [];
-  held = raw_held w from q h;
-  long = refl;
-  fits = l;
-  there = sym (append-nil (take m side));
-  behind = omega arith;
-  right = λ z a b. refl;
-  clean = refl;
-  broken = refl;
-  short = omega arith;
-}
 
 -- bytes laid behind what is there
 laid_front : (side p : List ℕ) (n : ℕ) → n + length p ≤ length side → take (n + length p) (laid side n p) ≡ take n side ++ p

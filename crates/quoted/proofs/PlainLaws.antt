@@ -8,7 +8,7 @@ use native.Mathlib.Numerals.{add-one}
 use native.Mathlib.Omega.{arith}
 use lib.Dec.{eqb, leb, eqb→eq}
 use lib.ListN.{length, get_or, take, drop}
-use lib.Seq.{slice, take-suc, take-add, drop-append-le, length-take-le, slice_empty}
+use lib.Seq.{slice, take-suc, take-add, drop-append-le, length-take-le}
 use borrow.Author.Tests.{leb-true, not-true, not-false, ne_eqb}
 use Rattle.paper.specs.Lists.{if, until, All}
 use Rattle.paper.specs.Bytes.{is_decoded}
@@ -17,7 +17,7 @@ use Rattle.paper.specs.Values.{text, decode, keep, cut, value}
 use Rattle.paper.proofs.Small.{both}
 use Rattle.paper.proofs.Table.{at}
 use Rattle.markup.proofs.WalkLaws.{take_drop}
-use Rattle.room.proofs.Runs.{run_ends, run_on, run_over}
+use Rattle.room.proofs.Runs.{run_on}
 use Rattle.quoted.specs.Plain.{ordinary, odd_table, Plainly}
 
 -- ---- the table
@@ -129,17 +129,9 @@ all_of w i e h =
 -- ---- the loop: what is told of the whole, by what is left from i on
 
 module _ (w : List ℕ) (u i : ℕ) (inv : u ≡ i + until ordinary (drop i w)) where
-  -- an odd byte ends the run
-  pub stops : i < length w → not (ordinary (get_or w i 0)) ≡ true → i ≡ u
-  stops h e = sym (inv ∙ run_ends ordinary w i h (not-true (ordinary (get_or w i 0)) e))
-
   -- an ordinary byte is passed
   pub passed : (j : ℕ) → j ≡ i + 1 → i < length w → not (ordinary (get_or w i 0)) ≡ false → u ≡ j + until ordinary (drop j w)
   passed j q h e = inv ∙ rw q (run_on ordinary w i h (not-false (ordinary (get_or w i 0)) e))
-
-  -- no byte is left
-  pub ends : length w ≤ i → i ≡ u
-  ends h = sym (inv ∙ run_over ordinary w i h)
 
 -- ---- trailing blanks
 
@@ -180,10 +172,6 @@ mark_kept_to w i e h k q =
     let z : e - 1 + 1 ≡ e = omega arith in
     let m = mark_kept w i (e - 1) (omega arith) (omega arith) q in
     rw z at m
-
--- nothing is left
-pub nothing_cut : (w : List ℕ) (i e : ℕ) → e ≡ i → slice i e w ≡ cut (slice i e w)
-nothing_cut w i e q = rw (q, slice_empty i w)
 
 -- ---- a plain value
 

@@ -5,47 +5,20 @@ use mathlib.Core.Bool.{Bool, true, false, ◌||◌}
 use mathlib.Core.List.{List, [], ◌∷◌, ◌++◌, append-nil}
 use Prim.Native.Nat.{ℕ, suc, ◌+◌, ◌≤◌, ◌<◌}
 use native.Mathlib.Omega.{arith}
-use lib.Dec.{eqb, leb, ltb}
+use lib.Dec.{eqb}
 use lib.ListN.{length, get_or, drop}
 use lib.Seq.{slice, slice-cons}
-use borrow.Author.Tests.{eqb-true, le-leb, lt-leb, ltb-true, ltb-false}
+use borrow.Author.Tests.{eqb-true}
 use Rattle.paper.specs.Lists.{until, All}
 use Rattle.paper.specs.Bytes.{is_allowed, is_digit}
 use Rattle.paper.specs.Grammar.{Pass, Some, is_hex, Ref, dec, hex, Raw, plain, is_plain, Quote}
 use Rattle.paper.proofs.Small.{no}
 use Rattle.quoted.specs.Plain.{ordinary}
-use Rattle.quoted.specs.Raws.{numeral, rare, RefAt}
+use Rattle.quoted.specs.Raws.{rare, RefAt}
 use Rattle.quoted.proofs.PlainLaws.{itself}
 use Rattle.quoted.proofs.Pieces.{part, one, none, all_run}
 
 -- ---- digits
-
-pub low : (h : Bool) (b : ℕ) → b < 48 → numeral h b ≡ false
-low true b l = rw (lt-leb 48 b l, lt-leb 65 b (omega arith), lt-leb 97 b (omega arith))
-low false b l = rw (lt-leb 48 b l)
-
-pub digit : (h : Bool) (b : ℕ) → 48 ≤ b → b < 58 → numeral h b ≡ true
-digit true b k l = rw (le-leb 48 b k, le-leb b 57 (omega arith))
-digit false b k l = rw (le-leb 48 b k, le-leb b 57 (omega arith))
-
-pub high : (h : Bool) (b : ℕ) → h ≡ false → 58 ≤ b → numeral h b ≡ false
-high h b e k = rw (e, le-leb 48 b (omega arith), lt-leb b 57 (omega arith))
-
-pub gap : (h : Bool) (b : ℕ) → h ≡ true → 58 ≤ b → b < 65 → numeral h b ≡ false
-gap h b e k l = rw (e, le-leb 48 b (omega arith), lt-leb b 57 (omega arith), lt-leb 65 b l, lt-leb 97 b (omega arith))
-
-pub capital : (h : Bool) (b : ℕ) → h ≡ true → 65 ≤ b → b < 71 → numeral h b ≡ true
-capital h b e k l = rw (e, le-leb 48 b (omega arith), lt-leb b 57 (omega arith), le-leb 65 b k, le-leb b 70 (omega arith))
-
-pub gap_2 : (h : Bool) (b : ℕ) → h ≡ true → 71 ≤ b → b < 97 → numeral h b ≡ false
-gap_2 h b e k l = rw (e, le-leb 48 b (omega arith), lt-leb b 57 (omega arith), le-leb 65 b (omega arith), lt-leb b 70 (omega arith), lt-leb 97 b l)
-
-pub small : (h : Bool) (b : ℕ) → h ≡ true → 97 ≤ b → ltb b 103 ≡ numeral h b
-small h b e k = rw (e, le-leb 48 b (omega arith), lt-leb b 57 (omega arith), le-leb 65 b (omega arith), lt-leb b 70 (omega arith), le-leb 97 b k) (go (ltb b 103) refl)
-  where
-    go : (t : Bool) → ltb b 103 ≡ t → t ≡ leb b 102
-    go true q = let y = ltb-true b 103 q in sym (le-leb b 102 (omega arith))
-    go false q = let y = ltb-false b 103 q in sym (lt-leb b 102 (omega arith))
 
 -- ---- references
 
@@ -125,9 +98,6 @@ rare_plain q c r n = first (eqb c 126) refl r
 pub record RawHeld (w : List ℕ) (from q i : ℕ) : Type 0 where
   pub within : (from ≤ i) × (i ≤ length w)
   pub so_far : (x : List ℕ) → Raw q x → Raw q (slice from i w ++ x)
-
-pub raw_held : (w : List ℕ) (from q : ℕ) → from ≤ length w → RawHeld w from q from
-raw_held w from q h = record { within = (omega arith, h); so_far = λ x d. rw (none w x from from refl) d }
 
 -- ordinary bytes before raw bytes
 pub runs : (q : ℕ) → Quote q → (s : List ℕ) → All (Pass ordinary) s → (x : List ℕ) → Raw q x → Raw q (s ++ x)

@@ -6,7 +6,7 @@ mod odd;
 pub mod raw;
 pub mod value;
 
-ghost use Rattle.std.specs.Prelude.{◌≡◌, not, ◌+◌, ◌≤◌, length, drop};
+ghost use Rattle.std.specs.Prelude.{◌≡◌, not, ◌+◌, ◌≤◌, length, drop, IfSome};
 ghost use Rattle.std.proofs.Math.Seq.{slice};
 ghost use Rattle.paper.specs.Lists.{until};
 ghost use Rattle.paper.specs.Values.{cut};
@@ -37,7 +37,7 @@ fn is_odd(b: u8, odd: &[u8; 256]) -> bool
     odd[b as usize] == 1
 }
 
-// Where the ordinary bytes end that begin at `at`. Four are taken in one turn.
+// Where the ordinary bytes end that begin at `at`. Four are taken in one turn. That loop may not change: reading's speed hangs on it.
 pub fn ordinary_end(page: &[u8], at: usize, odd: &[u8; 256]) -> usize
     requires { (at ≤ length page.now) × (odd.now ≡ odd_table) }
     ensures { (result ≡ at + until ordinary (drop at page.now)) × (at ≤ result) × (result ≤ length page.now) }
@@ -58,13 +58,12 @@ pub fn ordinary_end(page: &[u8], at: usize, odd: &[u8; 256]) -> usize
         }
         i += 4;
     }
-    while i < page.len() {
-        if is_odd(page[i], odd) {
-            return i;
+    for j in i..page.len() {
+        if is_odd(page[j], odd) {
+            return j;
         }
-        i += 1;
     }
-    i
+    page.len()
 }
 
 // The end of the bytes from `at` to `end` without the blanks before it.
@@ -72,27 +71,23 @@ pub fn trimmed(page: &[u8], at: usize, end: usize) -> usize
     requires { (at ≤ end) × (end ≤ length page.now) }
     ensures { (slice at result page.now ≡ cut (slice at end page.now)) × (at ≤ result) × (result ≤ end) }
 {
-    let mut e = end;
-    while e > at {
-        if page[e - 1] != 32 {
-            return e;
+    for i in (at..end).rev() {
+        if page[i] != b' ' {
+            return i + 1;
         }
-        e -= 1;
     }
-    e
+    at
 }
 
-// The value in quotes `q` that begins at `at`, if all its bytes are ordinary; else the quote is 0, and nothing is said of it.
-pub fn plain_value(page: &[u8], at: usize, q: u8, odd: &[u8; 256]) -> Plain
+// The value in quotes `q` that begins at `at`, if all its bytes are ordinary.
+pub fn plain_value(page: &[u8], at: usize, q: u8, odd: &[u8; 256]) -> Option<Plain>
     requires { (at ≤ length page.now) × (odd.now ≡ odd_table) × Quote q }
-    ensures { (result.quote ≡ 0 → ⊥) → Plainly page.now at q result.quote result.end }
+    ensures { IfSome result (λ p. Plainly page.now at q p.quote p.end) }
 {
-    let e = ordinary_end(page, at, odd);
-    if e < page.len() {
-        if page[e] == q {
-            let end = trimmed(page, at, e);
-            return Plain { quote: e, end: end };
-        }
+    let quote = ordinary_end(page, at, odd);
+    if quote < page.len() && page[quote] == q {
+        let end = trimmed(page, at, quote);
+        return Some(Plain { quote, end });
     }
-    Plain { quote: 0, end: 0 }
+    None
 }

@@ -1,5 +1,5 @@
 // One value of an attribute, judged by its field: where it lies, in the page or decoded in the side room.
-ghost use Rattle.std.specs.Prelude.{◌≡◌, true, ◌+◌, ◌≤◌, ◌<◌, length};
+ghost use Rattle.std.specs.Prelude.{◌≡◌, true, ◌+◌, ◌≤◌, ◌<◌, length, IfSome};
 ghost use Rattle.std.proofs.Math.Seq.{slice};
 ghost use Rattle.paper.specs.Lists.{is_empty, every, count};
 ghost use Rattle.paper.specs.Bytes.{is_decoded};
@@ -21,7 +21,7 @@ use fields::rules::keeps_form;
 // A start on the tape from here on says that the value lies in the side room.
 pub const ASIDE: usize = 32768;
 
-// A value judged: its closing quote (0: it is not surely fine), its two numbers for the tape, and how many bytes of the side room are then in use.
+// A value judged: its closing quote, its two numbers for the tape, and how many bytes of the side room are then in use.
 #[derive(Clone, Copy)]
 pub struct Judged {
     pub quote: usize,
@@ -35,10 +35,7 @@ fn is_absent(room: &[u8], from: usize, to: usize, id: usize, limits: &[u64; FIEL
     requires { (from ≤ to) × (to ≤ length room.now) × (id < field_count) × (limits.now ≡ limit_column) }
     ensures { result ≡ is_empty (settle (field_at id) (slice from to room.now)) }
 {
-    if from == to {
-        return true;
-    }
-    is_zero(rule_in(limits, id), &room[from..to])
+    from == to || is_zero(rule_in(limits, id), &room[from..to])
 }
 
 // Whether the value from `at` to `end` keeps the field at a place of the table, if its bytes may stand in a value, and of line breaks it has no more than it may.
@@ -50,7 +47,7 @@ fn keeps_text(room: &[u8], at: usize, end: usize, id: usize, limits: &[u64; FIEL
     keeps_form(limits, id, &room[at..end])
 }
 
-// A value with odd bytes: it is decoded into the side room behind what is in use.
+// A value with odd bytes, if it is surely fine: it is decoded into the side room behind what is in use.
 fn odd_value(
     page: &[u8],
     at: usize,
@@ -60,54 +57,33 @@ fn odd_value(
     limits: &[u64; FIELDS],
     side: &mut [u8],
     used: usize,
-) -> Judged
+) -> Option<Judged>
     requires { (0 < at) × (at ≤ length page.now) × (length page.now ≤ page_bytes) × Quote q × (id < field_count) × Tables odd.now limits.now
         × (used ≤ length side.old) × (length side.old < aside) }
-    ensures { (result.quote ≡ 0 → ⊥) → Valued page.now side.new at q id result.quote result.start result.end result.used
-        × Grown side.old side.new used result.used × (result.used + at ≤ used + result.quote) }
+    ensures { IfSome result (λ v. Valued page.now side.new at q id v.quote v.start v.end v.used
+        × Grown side.old side.new used v.used × (v.used + at ≤ used + v.quote)) }
 {
-    let coded = coded_value(page, at, q, odd, side, used);
-    if coded.quote == 0 {
-        return Judged {
-            quote: 0,
-            start: 0,
-            end: 0,
-            used: 0,
-        };
-    }
+    let coded = coded_value(page, at, q, odd, side, used)?;
     if is_absent(side, used, coded.end, id, limits) {
-        return Judged {
+        return Some(Judged {
             quote: coded.quote,
             start: at,
             end: at,
-            used: used,
-        };
+            used,
+        });
     }
-    if coded.breaks > tildes_in(limits, id) {
-        return Judged {
-            quote: 0,
-            start: 0,
-            end: 0,
-            used: 0,
-        };
-    }
-    if keeps_text(side, used, coded.end, id, limits) {
-        return Judged {
+    if coded.breaks <= tildes_in(limits, id) && keeps_text(side, used, coded.end, id, limits) {
+        return Some(Judged {
             quote: coded.quote,
             start: used + ASIDE,
             end: coded.end,
             used: coded.end,
-        };
+        });
     }
-    Judged {
-        quote: 0,
-        start: 0,
-        end: 0,
-        used: 0,
-    }
+    None
 }
 
-// The value in quotes `q` that begins at `at`, judged by the field at a place of the table.
+// The value in quotes `q` that begins at `at`, judged by the field at a place of the table, if it is surely fine.
 pub fn take_value(
     page: &[u8],
     at: usize,
@@ -117,36 +93,30 @@ pub fn take_value(
     limits: &[u64; FIELDS],
     side: &mut [u8],
     used: usize,
-) -> Judged
+) -> Option<Judged>
     requires { (0 < at) × (at ≤ length page.now) × (length page.now ≤ page_bytes) × Quote q × (id < field_count) × Tables odd.now limits.now
         × (used ≤ length side.old) × (length side.old < aside) }
-    ensures { (result.quote ≡ 0 → ⊥) → Valued page.now side.new at q id result.quote result.start result.end result.used
-        × Grown side.old side.new used result.used × (result.used + at ≤ used + result.quote) }
+    ensures { IfSome result (λ v. Valued page.now side.new at q id v.quote v.start v.end v.used
+        × Grown side.old side.new used v.used × (v.used + at ≤ used + v.quote)) }
 {
-    let plain = plain_value(page, at, q, odd);
-    if plain.quote == 0 {
+    let Some(plain) = plain_value(page, at, q, odd) else {
         return odd_value(page, at, q, id, odd, limits, side, used);
-    }
+    };
     if is_absent(page, at, plain.end, id, limits) {
-        return Judged {
+        return Some(Judged {
             quote: plain.quote,
             start: at,
             end: at,
-            used: used,
-        };
+            used,
+        });
     }
     if keeps_text(page, at, plain.end, id, limits) {
-        return Judged {
+        return Some(Judged {
             quote: plain.quote,
             start: at,
             end: plain.end,
-            used: used,
-        };
+            used,
+        });
     }
-    Judged {
-        quote: 0,
-        start: 0,
-        end: 0,
-        used: 0,
-    }
+    None
 }

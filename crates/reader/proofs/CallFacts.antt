@@ -9,7 +9,7 @@ use native.Mathlib.Omega.{arith}
 use lib.Dec.{leb}
 use lib.ListN.{length, take, drop, get_or, drop_of_length-le}
 use lib.Seq.{drop-cons}
-use borrow.Author.Tests.{leb-true, le-leb, lt-leb}
+use borrow.Author.Tests.{leb-true}
 use Rattle.paper.specs.Calls.{inside, pages_at, roomy, row_room, text_room}
 use Rattle.paper.proofs.Small.{both, and_false}
 use Rattle.paper.proofs.CallLaws.{inside_true}
@@ -44,21 +44,6 @@ module _ (b ss ns : List ℕ) (i : ℕ) (alike : length ns ≡ length ss) where
   -- no page is left
   pub none_left : length ss ≤ i → inside_from b ss ns i ≡ true
   none_left h = rw (drop_of_length-le ss h, drop_of_length-le ns {i = i} (omega arith))
-
--- ---- the count of pages
-
-module _ (b ss ns : List ℕ) where
-  -- no page
-  pub no_page : length ss < 1 → false ≡ (leb 1 (length ss) && (leb (length ss) 9 && inside b ss ns))
-  no_page h = sym (ap (λ (x : Bool). x && (leb (length ss) 9 && inside b ss ns)) (lt-leb 1 (length ss) h))
-
-  -- more than nine
-  pub many_pages : 9 < length ss → false ≡ (leb 1 (length ss) && (leb (length ss) 9 && inside b ss ns))
-  many_pages h = sym (ap (λ (x : Bool). x && (leb (length ss) 9 && inside b ss ns)) (le-leb 1 (length ss) (omega arith)) ∙ ap (λ (x : Bool). x && inside b ss ns) (lt-leb (length ss) 9 h))
-
-  -- one to nine: the buffer decides
-  pub few_pages : 1 ≤ length ss → length ss ≤ 9 → inside b ss ns ≡ (leb 1 (length ss) && (leb (length ss) 9 && inside b ss ns))
-  few_pages h g = sym (ap (λ (x : Bool). x && (leb (length ss) 9 && inside b ss ns)) (le-leb 1 (length ss) h) ∙ ap (λ (x : Bool). x && inside b ss ns) (le-leb (length ss) 9 g))
 
 -- ---- what a caller may rely on
 

@@ -8,8 +8,8 @@ use native.Mathlib.Nat.{add-zero}
 use native.Mathlib.Numerals.{add-one}
 use native.Mathlib.Omega.{arith}
 use lib.Dec.{eqb}
-use lib.ListN.{length, take, drop, get_or, set, length-append, drop_of_length-le}
-use lib.Seq.{drop-cons, take-suc-set}
+use lib.ListN.{length, take, drop, get_or, set, length-append, length-drop, drop_of_length-le}
+use lib.Seq.{drop-cons, take-length, take-suc-set}
 use Rattle.paper.specs.Lists.{concat}
 use Rattle.paper.specs.Plan.{Head, Row, Plan, same_head}
 use Rattle.paper.specs.Judging.{Sheet}
@@ -33,12 +33,13 @@ use Rattle.reader.proofs.PageLaws.{place_rows, place_none}
 
 -- ---- one page of the call
 
--- a page is the part of the buffer from its start to its end
-pub part_at : (b ss ns : List ℕ) (i s n : ℕ) → inside b ss ns ≡ true → i < length ss → s ≡ get_or ss i 0 → n ≡ get_or ns i 0 → take (s + n - s) (drop s b) ≡ get_or (pages_at b ss ns) i []
-part_at b ss ns i s n h l e f =
-    let g : s + n - s ≡ n = omega arith in
+-- a page is the part of the buffer from its start on, as long as it is
+pub part_at : (b ss ns : List ℕ) (i : ℕ) → inside b ss ns ≡ true → i < length ss
+    → take (get_or ns i 0) (take (length b - get_or ss i 0) (drop (get_or ss i 0) b)) ≡ get_or (pages_at b ss ns) i []
+part_at b ss ns i h l =
+    let v : List ℕ = drop (get_or ss i 0) b in
     let k : i < length ns = omega (arith, (inside_true b ss ns h).alike) in
-    ap (λ (m : ℕ). take m (drop s b)) g ∙ (rw (e, f) (sym (page_at_lem b ss ns i l k)))
+    ap (λ (m : ℕ). take (get_or ns i 0) (take m v)) (sym (length-drop (get_or ss i 0) b)) ∙ (ap (take (get_or ns i 0)) (take-length v) ∙ sym (page_at_lem b ss ns i l k))
 
 -- every page fits
 pub fits_at : (ws : List (List ℕ)) (i : ℕ) → AllFit ws → i < length ws → PageFits (get_or ws i [])
@@ -150,20 +151,15 @@ found_at n ws h = at (has n (sheets_of ws)) refl
     at false q = absurd (h ((place_none n (sheets_of ws) q).0 ∙ sheets_count ws))
 
 -- where the page of number k stands in a call: it is not there, or page i is that page, and gives the number's rows
-module _ {b ss ns : List ℕ} (C : Called b ss ns) (k : ℕ) {i : ℕ} (e : i ≡ place_of k (sheets_of (pages_at b ss ns))) where
-  pub no_page : i ≡ length ss → rows_at k (sheets_of (pages_at b ss ns)) ≡ []
-  no_page h = lost k (sheets_of (pages_at b ss ns)) (sym e ∙ (h ∙ sym (call_count b ss ns C)))
+module _ {b ss ns : List ℕ} (C : Called b ss ns) (k : ℕ) where
+  pub no_page : place_of k (sheets_of (pages_at b ss ns)) ≡ length ss → rows_at k (sheets_of (pages_at b ss ns)) ≡ []
+  no_page h = lost k (sheets_of (pages_at b ss ns)) (h ∙ sym (call_count b ss ns C))
 
-  pub page_there : (i ≡ length ss → ⊥) → i < length ss
-  page_there h =
+  pub page_rows : {i : ℕ} → i ≡ place_of k (sheets_of (pages_at b ss ns)) → i < length ss → {w : List ℕ} → w ≡ get_or (pages_at b ss ns) i []
+      → rows_at k (sheets_of (pages_at b ss ns)) ≡ rows_from (tags_at w 0)
+  page_rows {i} e h q =
       let c = pages_count b ss ns C.lie in
-      let f = (found_at k (pages_at b ss ns) (λ z. h (e ∙ (z ∙ c)))).0 in
-      omega (arith, c, e, f)
-
-  pub page_rows : (i ≡ length ss → ⊥) → {w : List ℕ} → w ≡ get_or (pages_at b ss ns) i [] → rows_at k (sheets_of (pages_at b ss ns)) ≡ rows_from (tags_at w 0)
-  page_rows h q =
-      let c = pages_count b ss ns C.lie in
-      (found_at k (pages_at b ss ns) (λ z. h (e ∙ (z ∙ c)))).1
+      (found_at k (pages_at b ss ns) (λ z. omega (arith, c, e, z))).1
       ∙ (ap (λ (j : ℕ). (sheet_at (pages_at b ss ns) j).rows) (sym e) ∙ (rows_said (get_or (pages_at b ss ns) i []) ∙ ap (λ (v : List ℕ). rows_from (tags_at v 0)) (sym q)))
 
 -- ---- rows of pages, one page behind the other

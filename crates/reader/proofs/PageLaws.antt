@@ -7,6 +7,7 @@ use Prim.Native.Nat.{ℕ, zero, suc, ◌+◌, ◌-◌, ◌*◌, ◌/◌, ◌%◌
 use native.Mathlib.Nat.{add-zero, zero-add, mul_comm, pow-suc, mod-eq_of_lt}
 use native.Mathlib.Numerals.{add-one}
 use native.Mathlib.Omega.{arith}
+use Rattle.std.specs.Prelude.{Option, Some, None, MatchOption, is_some}
 use lib.Bits.{bit_and, bit_or, or_block, and_high}
 use lib.Count.{ones, count_trailing_zeros}
 use lib.Dec.{eqb}
@@ -19,8 +20,8 @@ use Rattle.paper.specs.Judging.{Sheet}
 use Rattle.paper.specs.Reading.{has, page10, number11, rows_at}
 use Rattle.paper.specs.Collecting.{without, mask_of}
 use Rattle.paper.proofs.Small.{no, below_at}
-use Rattle.reader.specs.Pages.{nos_of, place_of, picked, present, marked, numbers_in, absent, first_of}
-use Rattle.reader.proofs.Digits.{value, same_picked, none_picked, fewer_picked, mask_value, marked_half, value_marked, above_marked, digits, whole, others, or_value, ones_value, low_value}
+use Rattle.reader.specs.Pages.{nos_of, place_of, picked, present, marked, numbers_in, absent, first_of, first_in, Says}
+use Rattle.reader.proofs.Digits.{digit, value, same_picked, none_picked, fewer_picked, mask_value, marked_half, value_marked, above_marked, digits, whole, others, or_value, ones_value, low_value}
 
 -- ---- sheets by their numbers
 
@@ -92,12 +93,8 @@ module _ (nos : List ℕ) (n : ℕ) (room : n ≤ length nos) where
 pub place_told : (k : ℕ) (ns : List ℕ) (r : ℕ) → place_in k ns ≡ r → (l : List Sheet) → nos_of l ≡ ns → r ≡ place_of k l
 place_told k ns r h l e = sym (place_in_lem k l ∙ (ap (place_in k) e ∙ h))
 
--- and what is told of all sheets of these numbers is told of the numbers
-pub place_known : (k : ℕ) (ns : List ℕ) (r : ℕ) → ((l : List Sheet) → nos_of l ≡ ns → r ≡ place_of k l) → place_in k ns ≡ r
-place_known k ns r h = let (l, e) = bearing ns in sym (h l e ∙ (place_in_lem k l ∙ ap (place_in k) e))
-
 -- a number stands before the end just if it is there
-pub there : (k : ℕ) (ns : List ℕ) → place_in k ns < length ns → among k ns ≡ true
+there : (k : ℕ) (ns : List ℕ) → place_in k ns < length ns → among k ns ≡ true
 there k [] h = absurd (omega arith)
 there k (x ∷ ns) h = at (eqb x k) h (there k ns)
   where
@@ -106,13 +103,25 @@ there k (x ∷ ns) h = at (eqb x k) h (there k ns)
     at false h ih = ih (omega arith)
 
 -- and not before the end if it is not there
-pub not_there : (k : ℕ) (ns : List ℕ) → length ns ≤ place_in k ns → among k ns ≡ false
+not_there : (k : ℕ) (ns : List ℕ) → length ns ≤ place_in k ns → among k ns ≡ false
 not_there k [] h = refl
 not_there k (x ∷ ns) h = at (eqb x k) h (not_there k ns)
   where
     at : (b : Bool) → suc (length ns) ≤ if b 0 (suc (place_in k ns)) → (length ns ≤ place_in k ns → among k ns ≡ false) → (b || among k ns) ≡ false
     at true h ih = absurd (omega arith)
     at false h ih = ih (omega arith)
+
+-- what `page_of` answers for these numbers says whether the number is there
+pub is_there : (k n : ℕ) (ns : List ℕ) (r : Option ℕ) → length ns ≡ n → ((l : List Sheet) → nos_of l ≡ ns → MatchOption r (place_of k l ≡ n) (λ i. (i ≡ place_of k l) × (i < n)))
+    → among k ns ≡ is_some r
+is_there k n ns None e h =
+    let (l, q) = bearing ns in
+    let p : place_of k l ≡ place_in k ns = place_in_lem k l ∙ ap (place_in k) q in
+    not_there k ns (omega (arith, h l q))
+is_there k n ns (Some i) e h =
+    let (l, q) = bearing ns in
+    let p : place_of k l ≡ place_in k ns = place_in_lem k l ∙ ap (place_in k) q in
+    there k ns (omega (arith, (h l q).0, (h l q).1))
 
 -- a page of that number: it stands there, and its rows are the rows of the number
 pub place_rows : (n : ℕ) (l : List Sheet) (d : Sheet) → has n l ≡ true → (place_of n l < length l) × ((get_or l (place_of n l) d).no ≡ n) × (rows_at n l ≡ (get_or l (place_of n l) d).rows)
@@ -154,21 +163,19 @@ pub record Passed (ns : List ℕ) (i : ℕ) : Type 0 where
 pub passed_none : (ns : List ℕ) → Passed ns 0
 passed_none ns = record { was = []; rest = refl; same = λ k. refl }
 
-module _ (nos : List ℕ) (n i r : ℕ) (room : n ≤ length nos) (P : Passed (take n nos) i) where
+module _ (nos : List ℕ) (n i : ℕ) (room : n ≤ length nos) (P : Passed (take n nos) i) where
   -- the numbers before this one
   earlier : i ≤ n → take i (take n nos) ≡ take i nos
   earlier h = take-take i n nos h
 
-  -- where this number stands among those before it
-  module _ (h : i < n) (at : place_in (get_or nos i 0) (take i nos) ≡ r) where
+  module _ (h : i < n) where
     here : (b : Bool) → among (get_or nos i 0) (take i nos) ≡ b → among (get_or (take n nos) i 0) (take i (take n nos)) ≡ b
     here b e = rw (entry nos n room i h, earlier (omega arith)) e
 
     -- it is new
-    pub passed_new : i ≤ r → Passed (take n nos) (i + 1)
+    pub passed_new : among (get_or nos i 0) (take i nos) ≡ false → Passed (take n nos) (i + 1)
     passed_new g =
-        let l = first_n nos i (omega arith) in
-        let e = here false (not_there (get_or nos i 0) (take i nos) (omega arith)) in
+        let e = here false g in
         let m : i < length (take n nos) = omega (arith, first_n nos n room) in
         record {
           was = get_or (take n nos) i 0 ∷ P.was;
@@ -177,10 +184,9 @@ module _ (nos : List ℕ) (n i r : ℕ) (room : n ≤ length nos) (P : Passed (t
         }
 
     -- it came before
-    pub passed_old : r < i → again_in [] 1 (take n nos) ≡ i + 1
+    pub passed_old : among (get_or nos i 0) (take i nos) ≡ true → again_in [] 1 (take n nos) ≡ i + 1
     passed_old g =
-        let l = first_n nos i (omega arith) in
-        let e = here true (there (get_or nos i 0) (take i nos) (omega arith)) in
+        let e = here true g in
         let m : i < length (take n nos) = omega (arith, first_n nos n room) in
         P.rest ∙ rw (drop-cons (take n nos) i 0, P.same (get_or (take n nos) i 0), e, again_in) (sym (add-one i))
 
@@ -276,16 +282,27 @@ pub count_numbers : (mask : ℕ) → mask < 65536 → ones mask ≡ length (numb
 unfolding numbers_in
 count_numbers mask h = ap ones (sym (whole mask 16 h)) ∙ ones_value (marked mask) 0 16
 
+-- numbers that make a mask above 0 have a first one
+has_first : (p : ℕ → Bool) (n k : ℕ) → 0 < value p n k → Some (first_of (picked p n k)) ≡ first_in (picked p n k)
+has_first p n zero h = absurd (omega arith)
+has_first p n (suc k) h = at (p n) h (has_first p (suc n) k)
+  where
+    at : (b : Bool) → 0 < value p (suc n) k * 2 + digit b → (0 < value p (suc n) k → Some (first_of (picked p (suc n) k)) ≡ first_in (picked p (suc n) k))
+        → Some (first_of (if b (n ∷ picked p (suc n) k) (picked p (suc n) k))) ≡ first_in (if b (n ∷ picked p (suc n) k) (picked p (suc n) k))
+    at true h e = refl
+    at false h e = e (omega arith)
+
 -- as many zeros below as the lowest number says
-pub first_number : (mask : ℕ) → mask < 65536 → (mask ≡ 0 → ⊥) → count_trailing_zeros 16 mask ≡ first_of (numbers_in mask)
+pub first_number : (mask : ℕ) → mask < 65536 → (mask ≡ 0 → ⊥) → Some (count_trailing_zeros 16 mask) ≡ first_in (numbers_in mask)
 unfolding numbers_in
 first_number mask h ne =
     let w = whole mask 16 h in
     let pos : 0 < value (marked mask) 0 16 = omega arith in
-    sym (ap (count_trailing_zeros 16) w) ∙ (sym (zero-add (count_trailing_zeros 16 (value (marked mask) 0 16))) ∙ low_value (marked mask) 0 16 pos)
+    let e : count_trailing_zeros 16 mask ≡ first_of (picked (marked mask) 0 16) = sym (ap (count_trailing_zeros 16) w) ∙ (sym (zero-add (count_trailing_zeros 16 (value (marked mask) 0 16))) ∙ low_value (marked mask) 0 16 pos) in
+    ap Some e ∙ has_first (marked mask) 0 16 pos
 
 -- an empty mask has no number
-pub no_number : (mask : ℕ) → mask ≡ 0 → 0 ≡ first_of (numbers_in mask)
+pub no_number : (mask : ℕ) → mask ≡ 0 → None ≡ first_in (numbers_in mask)
 unfolding numbers_in
 no_number mask e = rw e
 
@@ -320,23 +337,23 @@ pub numbers_missing : (l : List Sheet) (z : ℕ) → z ≤ 9 → numbers_in (mas
 numbers_missing l z h = ap (λ (ms : List ℕ). numbers_in (mask_of ms)) (without_picked l 1 z) ∙ (numbers_back (λ i. not (has i l)) z h ∙ sym (without_picked l 1 z))
 
 -- the lowest missing number is the first of them
-pub lowest_first : (l : List Sheet) (n k : ℕ) → first_of (without l n k) ≡ number11 l n k
-lowest_first l n zero = refl
-lowest_first l n (suc k) = at (has n l) (lowest_first l (suc n) k)
+pub lowest_first : (l : List Sheet) (n k : ℕ) → 1 ≤ n → Says (first_in (without l n k)) (number11 l n k)
+lowest_first l n zero h = refl
+lowest_first l n (suc k) h = at (has n l) (lowest_first l (suc n) k (omega arith))
   where
-    at : (b : Bool) → first_of (without l (suc n) k) ≡ number11 l (suc n) k → first_of (if b (without l (suc n) k) (n ∷ without l (suc n) k)) ≡ if b (number11 l (suc n) k) n
+    at : (b : Bool) → Says (first_in (without l (suc n) k)) (number11 l (suc n) k) → Says (first_in (if b (without l (suc n) k) (n ∷ without l (suc n) k))) (if b (number11 l (suc n) k) n)
     at true e = e
-    at false e = refl
+    at false e = (refl, h)
 
 -- what `missing_mask`, `missing_count` and `lowest_missing` answer for sheets whose numbers make the mask `have`
-pub record Missing (l : List Sheet) (z mask count low : ℕ) : Type 0 where
+pub record Missing (l : List Sheet) (z mask count : ℕ) (low : Option ℕ) : Type 0 where
   pub mask_is : mask ≡ mask_of (without l 1 z)
   pub count_is : count ≡ length (without l 1 z)
-  pub lowest_is : low ≡ number11 l 1 z
+  pub lowest_is : Says low (number11 l 1 z)
 
 -- they are the missing numbers of the sheets, their count and the lowest
-pub missing : (l : List Sheet) (have z mask count low : ℕ) → z ≤ 9 → have ≡ mask_of (present l) → mask ≡ mask_of (absent have z) → count ≡ length (numbers_in mask) → low ≡ first_of (numbers_in mask) → Missing l z mask count low
+pub missing : (l : List Sheet) (have z mask count : ℕ) (low : Option ℕ) → z ≤ 9 → have ≡ mask_of (present l) → mask ≡ mask_of (absent have z) → count ≡ length (numbers_in mask) → low ≡ first_in (numbers_in mask) → Missing l z mask count low
 missing l have z mask count low h e m c f =
     let q : mask ≡ mask_of (without l 1 z) = m ∙ (ap (λ (x : ℕ). mask_of (absent x z)) e ∙ ap mask_of (absent_without l z h)) in
     let ns : numbers_in mask ≡ without l 1 z = ap numbers_in q ∙ numbers_missing l z h in
-    record { mask_is = q; count_is = c ∙ ap length ns; lowest_is = f ∙ (ap first_of ns ∙ lowest_first l 1 z) }
+    record { mask_is = q; count_is = c ∙ ap length ns; lowest_is = rw (f ∙ ap first_in ns) (lowest_first l 1 z (omega arith)) }

@@ -7,6 +7,7 @@ use mathlib.Core.List.{List, [], ◌∷◌}
 use Prim.Native.Nat.{ℕ, zero, suc, ◌+◌, ◌≤◌, ◌<◌}
 use native.Mathlib.Numerals.{add-one}
 use native.Mathlib.Omega.{arith}
+use Rattle.std.specs.Prelude.{Option}
 use lib.Dec.{eqb, leb}
 use lib.ListN.{length, drop, drop_of_length-le}
 use borrow.Author.Tests.{le-leb, lt-leb}
@@ -19,26 +20,22 @@ use Rattle.paper.specs.Reading as Paper
 use Rattle.paper.specs.Layout.{text_of}
 use Rattle.paper.specs.Collecting.{mask_of}
 use Rattle.paper.specs.Calls.{inside, pages_at, read_at, roomy, read_call}
-use Rattle.paper.proofs.Small.{unequal}
+use Rattle.paper.proofs.Small.{no, unequal}
 use Rattle.paper.proofs.PageNumbers.{numbered}
-use Rattle.paper.proofs.Judged.{two_to_eight, size_place}
+use Rattle.paper.proofs.Judged.{two_to_eight}
 use Rattle.paper.proofs.CallLaws.{pages_count}
 use Rattle.paper.proofs.ReadSound.{judges}
 use Rattle.paper.proofs.Rooms.{rooms}
 use Rattle.markup.specs.Walk.{tags_at}
-use Rattle.plan.specs.Numbers.{rows_lent, plan_numbers, plan_rows}
-use Rattle.plan.specs.Records.{empty_plan}
-use Rattle.room.specs.Laid.{laid}
+use Rattle.plan.specs.Numbers.{rows_lent}
 use Rattle.sheet.specs.Content.{content_of}
-use Rattle.sheet.specs.Judged.{verdict_of}
-use Rattle.reader.specs.Answers.{numbers_of, told_of, PageRefusal}
-use Rattle.reader.specs.Pages.{present, absent, numbers_in, first_of}
+use Rattle.sheet.specs.Judged.{is_fine}
+use Rattle.reader.specs.Answers.{numbers_of, told_of, refused_as}
+use Rattle.reader.specs.Pages.{present, absent, numbers_in, first_in, Says}
 use Rattle.reader.specs.Joining.{sheets_of, PageFits, AllFit, first_other, count_said, plan_in, no_plan}
-use Rattle.reader.specs.Promise.{Promised, answered}
-use Rattle.reader.specs.declared.answer.Answer.{Answer}
-use Rattle.reader.specs.declared.answer.Answer.TheVariants.{Plan}
-use Rattle.sheet.specs.declared.judge.Verdict.TheVariants.{Refused, Fine}
-use Rattle.reader.specs.declared.reading.Reading.{Reading}
+use Rattle.reader.specs.Promise.{answered}
+use Rattle.reader.specs.declared.answer.Refusal.{Refusal}
+use Rattle.reader.specs.declared.answer.Refusal.TheVariants.{NoRoom, PageSize, ByteRefused, Malformed, OutOfPlace, OtherEdition, BrokenValue, Incomplete, OtherHead, NumberTwice, NumberMissing, TooManyRows}
 use Rattle.reader.proofs.CallFacts.{call_fits_lem, room_fits}
 use Rattle.reader.proofs.JoiningLaws.{sheets_count}
 use Rattle.sheet.proofs.PageLaws.{page_content, page_fit, page_short}
@@ -80,40 +77,21 @@ all_said (w ∷ ws) k l e = at (judge w) (judge_all (suc k) ws) refl (λ m q. al
 
 module _ (ws : List (List ℕ)) (i : ℕ) (w : List ℕ) (turn : drop i ws ≡ w ∷ drop (suc i) ws) where
   -- a page that is refused ends it
-  pub stops : (n p : ℕ) → Refused n p ≡ verdict_of (judge w) → numbers n (i + 1) p ≡ told_of (judge_all (i + 1) (drop i ws))
-  stops n p e = rw turn (at (judge w) e)
-    where
-      at : (j : Judged) → Refused n p ≡ verdict_of j → numbers n (i + 1) p ≡ told_of (cons j (i + 1) (judge_all (suc (i + 1)) (drop (suc i) ws)))
-      at (refused m q) e =
-          let x : n ≡ m = cc in
-          let y : p ≡ q = cc in
-          rw (x, y)
-      at (sheet s) e = let y : ◌≡◌ {A = ℕ} 0 1 = cc in unequal y
+  pub stops : (n p : ℕ) → judge w ≡ refused n p → told_of (judge_all (i + 1) (drop i ws)) ≡ numbers n (i + 1) p
+  stops n p e = rw (turn, e)
 
   -- behind a page without faults it goes on
-  pub goes_on : Fine ≡ verdict_of (judge w) → told_of (judge_all (i + 1) (drop i ws)) ≡ told_of (judge_all (i + 1 + 1) (drop (i + 1) ws))
+  pub goes_on : is_fine (judge w) ≡ true → told_of (judge_all (i + 1) (drop i ws)) ≡ told_of (judge_all (i + 1 + 1) (drop (i + 1) ws))
   goes_on e = rw (turn, add-one i, add-one (suc i)) (at (judge w) (judge_all (suc (suc i)) (drop (suc i) ws)) e)
     where
-      at : (j : Judged) (J : Judgement) → Fine ≡ verdict_of j → told_of (cons j (suc i) J) ≡ told_of J
-      at (refused m q) J e = let y : ◌≡◌ {A = ℕ} 0 1 = cc in unequal y
+      at : (j : Judged) (J : Judgement) → is_fine j ≡ true → told_of (cons j (suc i) J) ≡ told_of J
+      at (refused m q) J e = no (sym e)
       at (sheet s) (stopped n k q) e = refl
       at (sheet s) (sheets l) e = refl
 
 -- no page is left
-pub none_refused : (ws : List (List ℕ)) (i : ℕ) → length ws ≤ i → numbers 0 0 0 ≡ told_of (judge_all (i + 1) (drop i ws))
+pub none_refused : (ws : List (List ℕ)) (i : ℕ) → length ws ≤ i → told_of (judge_all (i + 1) (drop i ws)) ≡ numbers 0 0 0
 none_refused ws i h = rw (drop_of_length-le ws h)
-
--- a page's refusal is one of the table's
-pub page_refused : (w : List ℕ) (n i : ℕ) → Refused n i ≡ verdict_of (judge w) → PageRefusal n i
-page_refused w n i e = at (judge w) refl e
-  where
-    at : (j : Judged) → judge w ≡ j → Refused n i ≡ verdict_of j → PageRefusal n i
-    at (refused m k) p e =
-        let x : n ≡ m = cc in
-        let y : i ≡ k = cc in
-        let (a, b) = two_to_eight w m k p in
-        rw (x, y) (record { least = a; most = b; size_place = size_place w m k p })
-    at (sheet s) p e = let y : ◌≡◌ {A = ℕ} 0 1 = cc in unequal y
 
 -- so where nothing is told, no page is refused
 pub none_told : (ws : List (List ℕ)) (k : ℕ) → (told_of (judge_all k ws)).number ≡ 0 → (l : List Sheet) × (judge_all k ws ≡ sheets l)
@@ -214,23 +192,37 @@ module _ (rows text b ss ns : List ℕ) where
         let F = call_fits_lem b ss ns call in
         rw (room, call, pages_count b ss ns F.lie, le-leb 1 (length ss) F.some, le-leb (length ss) 9 F.nine)
 
--- the pages are judged, and the answer is a refusal
-pub refused_as : (ws : List (List ℕ)) (a : Answer) → numbers_of a ≡ told_of (judge_all 1 ws) → ((numbers_of a).number ≡ 0 → ⊥)
-    → (n : ℕ) × (k : ℕ) × (i : ℕ) × (decide (judge_all 1 ws) ≡ Paper.refusal n k i) × (numbers_of a ≡ numbers n k i)
-refused_as ws a e h = at (judge_all 1 ws) e
+-- a refusal has a number
+numbered_some : (x : Refusal) → 1 ≤ (numbers_of x).number
+numbered_some NoRoom = omega arith
+numbered_some (PageSize k) = omega arith
+numbered_some (ByteRefused k i) = omega arith
+numbered_some (Malformed k i) = omega arith
+numbered_some (OutOfPlace k i) = omega arith
+numbered_some (OtherEdition k i) = omega arith
+numbered_some (BrokenValue k i) = omega arith
+numbered_some (Incomplete k i) = omega arith
+numbered_some (OtherHead k) = omega arith
+numbered_some (NumberTwice k) = omega arith
+numbered_some (NumberMissing n) = omega arith
+numbered_some TooManyRows = omega arith
+
+-- the pages are judged, and the first that is refused is told
+pub judged_refused : (ws : List (List ℕ)) (x : Refusal) → numbers_of x ≡ told_of (judge_all 1 ws) → decide (judge_all 1 ws) ≡ refused_as x
+judged_refused ws x e = at (judge_all 1 ws) e
   where
-    at : (J : Judgement) → numbers_of a ≡ told_of J → (n : ℕ) × (k : ℕ) × (i : ℕ) × (decide J ≡ Paper.refusal n k i) × (numbers_of a ≡ numbers n k i)
-    at (stopped n k i) e = (n, k, i, refl, e)
-    at (sheets l) e = absurd (h (ap (λ (t : Numbers). t.number) e))
+    at : (J : Judgement) → numbers_of x ≡ told_of J → decide J ≡ refused_as x
+    at (stopped n k i) e = ap (λ (t : Numbers). Paper.refusal t.number t.page t.place) (sym e)
+    at (sheets l) e = let z : (numbers_of x).number ≡ 0 = ap (λ (t : Numbers). t.number) e in absurd (omega (arith, z, numbered_some x))
 
 -- the pages are judged, and none is refused: what they say is joined
 pub record Clean (ws : List (List ℕ)) : Type 0 where
   pub fits : AllFit ws
   pub joins : decide (judge_all 1 ws) ≡ join (sheets_of ws)
 
-pub clean : (ws : List (List ℕ)) (a : Answer) → numbers_of a ≡ told_of (judge_all 1 ws) → (numbers_of a).number ≡ 0 → Clean ws
-clean ws a e z =
-    let (l, p) = none_told ws 1 (ap (λ (t : Numbers). t.number) (sym e) ∙ z) in
+pub clean : (ws : List (List ℕ)) → told_of (judge_all 1 ws) ≡ numbers 0 0 0 → Clean ws
+clean ws e =
+    let (l, p) = none_told ws 1 (ap (λ (t : Numbers). t.number) e) in
     let (f, q) = all_said ws 1 l p in
     record { fits = f; joins = ap decide p ∙ ap join q }
 
@@ -255,12 +247,12 @@ pub record Joins (rows text b ss ns : List ℕ) : Type 0 where
   pub join_is : answered rows text b ss ns ≡ join (sheets_of (pages_at b ss ns))
 
 pub joins : (rows text b ss ns : List ℕ) → roomy (rows_lent (length rows)) (length text) ≡ true → (leb 1 (length ss) && (leb (length ss) 9 && inside b ss ns)) ≡ true
-    → (a : Answer) → numbers_of a ≡ told_of (judge_all 1 (pages_at b ss ns)) → (numbers_of a).number ≡ 0 → Joins rows text b ss ns
-joins rows text b ss ns room call a e z =
+    → told_of (judge_all 1 (pages_at b ss ns)) ≡ numbers 0 0 0 → Joins rows text b ss ns
+joins rows text b ss ns room call e =
     let ws : List (List ℕ) = pages_at b ss ns in
     let F = call_fits_lem b ss ns call in
     let R = room_fits (length rows) (length text) room in
-    let C = clean ws a e z in
+    let C = clean ws e in
     let n : length (sheets_of ws) ≡ length ss = sheets_count ws ∙ pages_count b ss ns F.lie in
     record {
       some_starts = F.some;
@@ -286,18 +278,6 @@ pub rows_counted : (l : List Sheet) → 1 ≤ length l → length (joined l 1 (c
 rows_counted l some h = rw (rows_in l some) h
 
 -- the lowest missing number, by the masks
-pub low_is : (l : List Sheet) (have z mask low : ℕ) → z ≡ count_said l → count_said l ≤ 9 → have ≡ mask_of (present l) → mask ≡ mask_of (absent have z) → low ≡ first_of (numbers_in mask)
-    → low ≡ number11 l 1 (count_said l)
-low_is l have z mask low e h p m f = (Page.missing l have z mask (length (numbers_in mask)) low (omega arith) p m refl f).lowest_is ∙ ap (number11 l 1) e
-
--- ---- the promise
-
-module _ (A : Paper.Answer) (rows text : List ℕ) where
-  -- what a refusal must show
-  pub refuses : (n k i : ℕ) → A ≡ Paper.refusal n k i → (r : Reading) → numbers_of r.answer ≡ numbers n k i → r.plan ≡ empty_plan → Promised A rows text r rows text
-  refuses n k i e r a p = rw e (record { answer_is = a; plan_is = p; rows_are = refl; text_is = refl })
-
-  -- what a plan must show
-  pub reads_as : (p : Said.Plan) → A ≡ Paper.plan p → (r : Reading) (rows' text' : List ℕ) → r.answer ≡ Plan → r.plan ≡ plan_numbers p
-      → text' ≡ laid text 0 (text_of p) → rows' ≡ laid rows 0 (plan_rows p) → Promised A rows text r rows' text'
-  reads_as p e r rows' text' a q t s = rw e (record { answer_is = a; plan_is = q; rows_are = s; text_is = t })
+pub low_is : (l : List Sheet) (have z mask : ℕ) (low : Option ℕ) → z ≡ count_said l → count_said l ≤ 9 → have ≡ mask_of (present l) → mask ≡ mask_of (absent have z)
+    → low ≡ first_in (numbers_in mask) → Says low (number11 l 1 (count_said l))
+low_is l have z mask low e h p m f = rw (← e) ((Page.missing l have z mask (length (numbers_in mask)) low (omega arith) p m refl f).lowest_is)

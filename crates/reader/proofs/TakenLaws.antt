@@ -11,14 +11,12 @@ use lib.Dec.{ltb}
 use borrow.Author.Tests.{ltb-true, ltb-false}
 use Rattle.paper.specs.Judging.{Judged, refused, Sheet, sheet, judge}
 use Rattle.paper.proofs.Small.{unequal}
-use Rattle.paper.specs.Reading.{Numbers, Judgement, stopped, sheets, cons, judge_all}
+use Rattle.paper.specs.Reading.{Numbers, numbers, Judgement, stopped, sheets, cons, judge_all}
 use Rattle.paper.specs.Calls.{inside, pages_at}
 use Rattle.paper.proofs.CallLaws.{pages_count}
 use Rattle.reader.specs.Joining.{PageFits, AllFit, Called}
-use Rattle.reader.specs.declared.answer.Answer.{Answer}
 use Rattle.reader.proofs.ReadingLaws.{all_said, none_told}
-use Rattle.reader.specs.Answers.{numbers_of, told_of}
-use Rattle.reader.specs.declared.answer.Answer.TheVariants.{Plan}
+use Rattle.reader.specs.Answers.{told_of}
 use Rattle.tape.specs.Tape.{elems_of, Taped, Makes}
 use Rattle.tape.specs.Making.{IsSheet}
 use Rattle.tape.proofs.PageLaws.{is_sheet_lem}
@@ -53,7 +51,7 @@ judged_all (w ∷ ws) k h =
     let (l, q) = judged_all ws (suc k) (λ i g. h (suc i) (omega arith)) in
     (s ∷ l, rw (e, q))
 
-pub none_refused : {b ss ns x t fs : List ℕ} → Taken b ss ns x t fs → numbers_of Plan ≡ told_of (judge_all 1 (pages_at b ss ns))
+pub none_refused : {b ss ns x t fs : List ℕ} → Taken b ss ns x t fs → told_of (judge_all 1 (pages_at b ss ns)) ≡ numbers 0 0 0
 none_refused {b} {ss} {ns} T =
     let c = pages_count b ss ns T.lie in
     let (l, q) = judged_all (pages_at b ss ns) 1 (λ k g. (_, (T.each k (omega arith)).taped.judged)) in
@@ -74,10 +72,10 @@ all_sheets (w ∷ ws) k l e = at (judge w) refl (judge_all (suc k) ws) (all_shee
     at (sheet s) p (stopped n j i) h e = let y : ◌≡◌ {A = ℕ} 0 1 = cc in unequal y
     at (sheet s) p (sheets m) h e = each_sheet w ws (is_sheet_lem w s p) (h m refl)
 
--- where the answer tells no refusal, every page is a sheet
-pub sheets_told : (ws : List (List ℕ)) (a : Answer) → numbers_of a ≡ told_of (judge_all 1 ws) → (numbers_of a).number ≡ 0 → AllSheets ws
-sheets_told ws a e z =
-    let (l, p) = none_told ws 1 (ap (λ (t : Numbers). t.number) (sym e) ∙ z) in
+-- where no refusal is told, every page is a sheet
+pub sheets_told : (ws : List (List ℕ)) → told_of (judge_all 1 ws) ≡ numbers 0 0 0 → AllSheets ws
+sheets_told ws e =
+    let (l, p) = none_told ws 1 (ap (λ (t : Numbers). t.number) e) in
     all_sheets ws 1 l p
 
 -- ---- pages taped one behind the other

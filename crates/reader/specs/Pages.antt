@@ -1,6 +1,6 @@
 -- Pages: page numbers as lists and as masks, beside paper's definitions on sheets.
 -- Assumes nothing.
-use Rattle.std.specs.Prelude.{Bool, not, List, [], ◌∷◌, ℕ, zero, suc, ◌/◌, ◌%◌, ◌^◌, eqb, leb}
+use Rattle.std.specs.Prelude.{◌≡◌, Bool, not, List, [], ◌∷◌, ℕ, zero, suc, ◌/◌, ◌%◌, ◌^◌, ◌≤◌, eqb, leb, Option, Some, None}
 use Rattle.paper.specs.Lists.{if}
 use Rattle.paper.specs.Judging.{Sheet}
 use Rattle.paper.specs.Reading.{has}
@@ -40,3 +40,13 @@ absent mask z = if (leb z 9) (picked (λ n. not (marked mask n)) 1 z) []
 abbrev pub first_of : List ℕ → ℕ
 first_of [] = 0
 first_of (n ∷ ns) = n
+
+-- the first number of a list, if it has one
+abbrev pub first_in : List ℕ → Option ℕ
+first_in [] = None
+first_in (n ∷ ns) = Some n
+
+-- an option says a number that may be 0: None says 0
+abbrev pub Says : Option ℕ → ℕ → Type 0
+Says None n = n ≡ 0
+Says (Some k) n = (k ≡ n) × (1 ≤ k)

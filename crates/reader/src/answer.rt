@@ -1,13 +1,14 @@
-// The answer to a call that reads pages: a plan, or a refusal of document 01's table, named for what happened.
+// The refusals of a call that reads pages: document 01's table, named for what happened.
 ghost use Rattle.std.specs.Prelude.{◌≡◌};
+ghost use Rattle.paper.specs.Causes.{cause_number};
 ghost use Rattle.paper.specs.Reading.{numbers};
-ghost use Rattle.reader.specs.Answers.{numbers_of, PageRefusal};
+ghost use Rattle.reader.specs.Answers.{numbers_of};
 
-// What reading answers. A page is counted from 1 in the order handed in; a place is the offset of a byte in its page.
-#[derive(Clone, Copy)]
-pub enum Answer {
-    // The pages are a plan.
-    Plan,
+use paper::Cause;
+
+// Why the pages of a call are no plan. A page is counted from 1 in the order handed in; a place is the offset of a byte in its page.
+#[derive(Clone, Copy, PartialEq, Eq)]
+pub enum Refusal {
     // The call is not well made: its page count, a page outside the buffer, or too little room.
     NoRoom,
     // The page is empty or has more than 1,400 bytes.
@@ -34,99 +35,74 @@ pub enum Answer {
     TooManyRows,
 }
 
-// The number of a refusal, 1 to 12; 0 for a plan.
-pub fn refusal_number(a: Answer) -> u32
-    ensures { result ≡ (numbers_of a).number }
-{
-    match a {
-        Answer::Plan => 0,
-        Answer::NoRoom => 1,
-        Answer::PageSize(_) => 2,
-        Answer::ByteRefused { page: _, place: _ } => 3,
-        Answer::Malformed { page: _, place: _ } => 4,
-        Answer::OutOfPlace { page: _, place: _ } => 5,
-        Answer::OtherEdition { page: _, place: _ } => 6,
-        Answer::BrokenValue { page: _, place: _ } => 7,
-        Answer::Incomplete { page: _, place: _ } => 8,
-        Answer::OtherHead(_) => 9,
-        Answer::NumberTwice(_) => 10,
-        Answer::NumberMissing(_) => 11,
-        Answer::TooManyRows => 12,
+impl Refusal {
+    // The refusal of a page for that cause. That of a page's size has no place.
+    pub fn of_page(cause: Cause, page: u32, place: u32) -> Refusal
+        requires { cause_number cause ≡ 2 → place ≡ 0 }
+        ensures { numbers_of result ≡ numbers (cause_number cause) page place }
+    {
+        match cause {
+            Cause::Size => Refusal::PageSize(page),
+            Cause::Byte => Refusal::ByteRefused { page, place },
+            Cause::Malformed => Refusal::Malformed { page, place },
+            Cause::OutOfPlace => Refusal::OutOfPlace { page, place },
+            Cause::Edition => Refusal::OtherEdition { page, place },
+            Cause::Value => Refusal::BrokenValue { page, place },
+            Cause::Incomplete => Refusal::Incomplete { page, place },
+        }
     }
-}
 
-// The page of a refusal; at a missing number that number, and 0 where the table has 0.
-pub fn refusal_page(a: Answer) -> u32
-    ensures { result ≡ (numbers_of a).page }
-{
-    match a {
-        Answer::Plan => 0,
-        Answer::NoRoom => 0,
-        Answer::PageSize(page) => page,
-        Answer::ByteRefused { page, place: _ } => page,
-        Answer::Malformed { page, place: _ } => page,
-        Answer::OutOfPlace { page, place: _ } => page,
-        Answer::OtherEdition { page, place: _ } => page,
-        Answer::BrokenValue { page, place: _ } => page,
-        Answer::Incomplete { page, place: _ } => page,
-        Answer::OtherHead(page) => page,
-        Answer::NumberTwice(page) => page,
-        Answer::NumberMissing(number) => number,
-        Answer::TooManyRows => 0,
+    // The number of the refusal, 1 to 12.
+    pub fn number(self) -> u32
+        ensures { result ≡ (numbers_of self).number }
+    {
+        match self {
+            Refusal::NoRoom => 1,
+            Refusal::PageSize(_) => 2,
+            Refusal::ByteRefused { .. } => 3,
+            Refusal::Malformed { .. } => 4,
+            Refusal::OutOfPlace { .. } => 5,
+            Refusal::OtherEdition { .. } => 6,
+            Refusal::BrokenValue { .. } => 7,
+            Refusal::Incomplete { .. } => 8,
+            Refusal::OtherHead(_) => 9,
+            Refusal::NumberTwice(_) => 10,
+            Refusal::NumberMissing(_) => 11,
+            Refusal::TooManyRows => 12,
+        }
     }
-}
 
-// The place of a refusal; 0 where the table has 0.
-pub fn refusal_place(a: Answer) -> u32
-    ensures { result ≡ (numbers_of a).place }
-{
-    match a {
-        Answer::Plan => 0,
-        Answer::NoRoom => 0,
-        Answer::PageSize(_) => 0,
-        Answer::ByteRefused { page: _, place } => place,
-        Answer::Malformed { page: _, place } => place,
-        Answer::OutOfPlace { page: _, place } => place,
-        Answer::OtherEdition { page: _, place } => place,
-        Answer::BrokenValue { page: _, place } => place,
-        Answer::Incomplete { page: _, place } => place,
-        Answer::OtherHead(_) => 0,
-        Answer::NumberTwice(_) => 0,
-        Answer::NumberMissing(_) => 0,
-        Answer::TooManyRows => 0,
+    // The page of the refusal; at a missing number that number, and 0 where the table has 0.
+    pub fn page(self) -> u32
+        ensures { result ≡ (numbers_of self).page }
+    {
+        match self {
+            Refusal::NoRoom | Refusal::TooManyRows => 0,
+            Refusal::PageSize(page)
+            | Refusal::ByteRefused { page, .. }
+            | Refusal::Malformed { page, .. }
+            | Refusal::OutOfPlace { page, .. }
+            | Refusal::OtherEdition { page, .. }
+            | Refusal::BrokenValue { page, .. }
+            | Refusal::Incomplete { page, .. }
+            | Refusal::OtherHead(page)
+            | Refusal::NumberTwice(page) => page,
+            Refusal::NumberMissing(number) => number,
+        }
     }
-}
 
-// The answer for a page that is refused with one of the numbers 2 to 8.
-pub fn refused_page(number: u32, page: u32, place: u32) -> Answer
-    requires { PageRefusal number place }
-    ensures { numbers_of result ≡ numbers number page place }
-{
-    match number {
-        2 => Answer::PageSize(page),
-        3 => Answer::ByteRefused {
-            page: page,
-            place: place,
-        },
-        4 => Answer::Malformed {
-            page: page,
-            place: place,
-        },
-        5 => Answer::OutOfPlace {
-            page: page,
-            place: place,
-        },
-        6 => Answer::OtherEdition {
-            page: page,
-            place: place,
-        },
-        7 => Answer::BrokenValue {
-            page: page,
-            place: place,
-        },
-        _ => Answer::Incomplete {
-            page: page,
-            place: place,
-        },
+    // The place of the refusal; 0 where the table has 0.
+    pub fn place(self) -> u32
+        ensures { result ≡ (numbers_of self).place }
+    {
+        match self {
+            Refusal::ByteRefused { place, .. }
+            | Refusal::Malformed { place, .. }
+            | Refusal::OutOfPlace { place, .. }
+            | Refusal::OtherEdition { place, .. }
+            | Refusal::BrokenValue { place, .. }
+            | Refusal::Incomplete { place, .. } => place,
+            _ => 0,
+        }
     }
 }

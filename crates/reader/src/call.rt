@@ -10,17 +10,13 @@ use room::lies_in;
 fn all_inside(buffer: &[u8], starts: &[usize], lens: &[usize]) -> bool
     ensures { result ≡ inside buffer.now starts.now lens.now }
 {
-    let size = buffer.len();
-    let n = starts.len();
-    if lens.len() != n {
+    if lens.len() != starts.len() {
         return false;
     }
-    let mut i = 0;
-    while i < n {
-        if !lies_in(size, starts[i], lens[i]) {
+    for i in 0..starts.len() {
+        if !lies_in(buffer.len(), starts[i], lens[i]) {
             return false;
         }
-        i += 1;
     }
     true
 }
@@ -30,21 +26,12 @@ pub fn call_fits(buffer: &[u8], starts: &[usize], lens: &[usize]) -> bool
     ensures { result ≡ (leb 1 (length starts.now) && (leb (length starts.now) 9 && inside buffer.now starts.now lens.now)) }
 {
     let n = starts.len();
-    if n < 1 {
-        return false;
-    }
-    if n > 9 {
-        return false;
-    }
-    all_inside(buffer, starts, lens)
+    1 <= n && n <= 9 && all_inside(buffer, starts, lens)
 }
 
 // Whether so many numbers for rows and so many bytes of text are room enough for reading.
 pub fn room_fits(row_numbers: usize, text: usize) -> bool
     ensures { result ≡ roomy (rows_lent row_numbers) text }
 {
-    if !rows_fit(row_numbers) {
-        return false;
-    }
-    text_fits(text)
+    rows_fit(row_numbers) && text_fits(text)
 }

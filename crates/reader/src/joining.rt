@@ -6,7 +6,7 @@ ghost use Rattle.paper.specs.Layout.{text_of, rows_values};
 ghost use Rattle.plan.specs.Numbers.{plan_numbers, plan_rows, stride};
 ghost use Rattle.room.specs.Laid.{laid};
 ghost use Rattle.page.specs.Laying.{Room, Fills};
-ghost use Rattle.reader.specs.Pages.{nos_of};
+ghost use Rattle.reader.specs.Pages.{nos_of, Says};
 ghost use Rattle.reader.specs.Joining.{said, sheet_at, like_first, first_other, count_said, plan_in, no_plan};
 ghost use Rattle.page.specs.Walking.{HeadAt};
 ghost use Rattle.reader.specs.Tapes.{Taken};
@@ -17,10 +17,10 @@ use page::content::{
 };
 use plan::Plan;
 
-// The first page whose head or count is another than the first page's (0 if there is none), the count, and the number of each page.
+// The first page whose head or count is another than the first page's, if there is one, the count, and the number of each page.
 #[derive(Clone, Copy)]
 pub struct Compared {
-    pub other: usize,
+    pub other: Option<usize>,
     pub count: u8,
     pub nos: [u8; 9],
 }
@@ -30,9 +30,7 @@ pub fn page_at<'a>(buffer: &'a [u8], starts: &'a [usize], lens: &'a [usize], i: 
     requires { (i < length starts.now) × (inside buffer.now starts.now lens.now ≡ true) }
     ensures { result.now ≡ get_or (pages_at buffer.now starts.now lens.now) i [] }
 {
-    let s = starts[i];
-    let n = lens[i];
-    &buffer[s..s + n]
+    &buffer[starts[i]..][..lens[i]]
 }
 
 // The number of page i.
@@ -75,7 +73,7 @@ fn like_first<'a>(
     alike(one, two, side, tape, h, k)
 }
 
-// The first page, counted from 1, whose count or head is another than the first page's, whose head lies at `h`; 0 if there is none.
+// The first page, counted from 1, whose count or head is another than the first page's, whose head lies at `h`, if there is one.
 fn first_other<'a>(
     buffer: &'a [u8],
     starts: &'a [usize],
@@ -84,20 +82,17 @@ fn first_other<'a>(
     tape: &'a [u16],
     firsts: &'a [usize; 10],
     h: Places,
-) -> usize
+) -> Option<usize>
     requires { (1 ≤ length starts.now) × (length starts.now ≤ 9) × Taken buffer.now starts.now lens.now side.now tape.now firsts.now
         × HeadAt (get_or (pages_at buffer.now starts.now lens.now) 0 []) side.now tape.now h }
-    ensures { result ≡ first_other (said buffer.now starts.now lens.now) }
+    ensures { Says result (first_other (said buffer.now starts.now lens.now)) }
 {
-    let n = starts.len();
-    let mut i = 1;
-    while i < n {
+    for i in 1..starts.len() {
         if !like_first(buffer, starts, lens, side, tape, firsts, h, i) {
-            return i + 1;
+            return Some(i + 1);
         }
-        i += 1;
     }
-    0
+    None
 }
 
 // The numbers of the pages, in the order handed in; 0 behind the last.
@@ -112,13 +107,9 @@ fn numbers<'a>(
     requires { (length starts.now ≤ 9) × Taken buffer.now starts.now lens.now side.now tape.now firsts.now }
     ensures { take (length starts.now) result ≡ nos_of (said buffer.now starts.now lens.now) }
 {
-    let n = starts.len();
     let mut nos = [0u8; 9];
-    let mut i = 0;
-    while i < n {
-        let no = number_at(buffer, starts, lens, side, tape, firsts, i);
-        nos[i] = no;
-        i += 1;
+    for i in 0..starts.len() {
+        nos[i] = number_at(buffer, starts, lens, side, tape, firsts, i);
     }
     nos
 }
@@ -133,7 +124,7 @@ pub fn heads<'a>(
     firsts: &'a [usize; 10],
 ) -> Compared
     requires { (1 ≤ length starts.now) × (length starts.now ≤ 9) × Taken buffer.now starts.now lens.now side.now tape.now firsts.now }
-    ensures { (result.other ≡ first_other (said buffer.now starts.now lens.now))
+    ensures { Says result.other (first_other (said buffer.now starts.now lens.now))
         × (result.count ≡ count_said (said buffer.now starts.now lens.now))
         × (take (length starts.now) result.nos ≡ nos_of (said buffer.now starts.now lens.now)) }
 {
@@ -143,9 +134,9 @@ pub fn heads<'a>(
     let other = first_other(buffer, starts, lens, side, tape, firsts, h);
     let nos = numbers(buffer, starts, lens, side, tape, firsts);
     Compared {
-        other: other,
+        other,
         count: of as u8,
-        nos: nos,
+        nos,
     }
 }
 
@@ -164,11 +155,9 @@ fn rows_of<'a>(
         × (nos_of (said buffer.now starts.now lens.now) ≡ take (length starts.now) nos) }
     ensures { (result ≡ length (rows_at k (said buffer.now starts.now lens.now))) × (result < 65536) }
 {
-    let n = starts.len();
-    let i = page_of(nos, n, k);
-    if i == n {
+    let Some(i) = page_of(nos, starts.len(), k) else {
         return 0;
-    }
+    };
     let page = page_at(buffer, starts, lens, i);
     count_rows(page, side, tape, firsts[i], firsts[i + 1])
 }
@@ -189,11 +178,8 @@ pub fn total_rows<'a>(
     ensures { result ≡ length (joined (said buffer.now starts.now lens.now) 1 z) }
 {
     let mut total = 0;
-    let mut k = 0;
-    while k < z {
-        let count = rows_of(buffer, starts, lens, side, tape, firsts, nos, k + 1);
-        total += count;
-        k += 1;
+    for k in 0..z {
+        total += rows_of(buffer, starts, lens, side, tape, firsts, nos, k + 1);
     }
     total
 }
@@ -220,11 +206,9 @@ fn fill_number<'a>(
     ensures { Fills (rows_at k (said buffer.now starts.now lens.now)) text.old text.new n result.end
         rows.old rows.new i result.row }
 {
-    let count = starts.len();
-    let p = page_of(nos, count, k);
-    if p == count {
+    let Some(p) = page_of(nos, starts.len(), k) else {
         return Filled { end: n, row: i };
-    }
+    };
     let page = page_at(buffer, starts, lens, p);
     fill_rows(page, side, tape, firsts[p], firsts[p + 1], rows, text, n, i)
 }
@@ -252,8 +236,7 @@ fn fill_pages<'a>(
 {
     let mut m = n;
     let mut i = 0;
-    let mut k = 0;
-    while k < z {
+    for k in 0..z {
         let filled = fill_number(
             buffer,
             starts,
@@ -270,7 +253,6 @@ fn fill_pages<'a>(
         );
         m = filled.end;
         i = filled.row;
-        k += 1;
     }
     Filled { end: m, row: i }
 }
@@ -303,7 +285,7 @@ pub fn fill_all<'a>(
     let filled = fill_pages(
         buffer, starts, lens, side, tape, firsts, nos, z, rows, text, head.end,
     );
-    let spans = head.spans;
+    let spans = head.spans; // Tried straight in the literal: no proof is made of that.
     Plan {
         patch: head.patch,
         rows: filled.row as u32,

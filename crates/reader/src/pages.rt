@@ -1,54 +1,48 @@
 // The numbers of the pages handed in: one that comes twice, those that are missing, and where the page of a number stands.
 //
 // Numbers stand in an array of nine, of which the first n count. A mask has bit k for page number k; bit 0 is never set.
-ghost use Rattle.std.specs.Prelude.{◌≡◌, List, [], ◌≤◌, eqb, length, take};
+ghost use Rattle.std.specs.Prelude.{◌≡◌, List, [], ◌≤◌, ◌<◌, eqb, length, take, MatchOption};
 ghost use Rattle.std.specs.Int.Bits.{bit_or};
 ghost use Rattle.paper.specs.Judging.{Sheet};
 ghost use Rattle.paper.specs.Reading.{page10};
 ghost use Rattle.paper.specs.Collecting.{mask_of};
-ghost use Rattle.reader.specs.Pages.{nos_of, place_of, picked, present, absent, numbers_in, first_of};
+ghost use Rattle.reader.specs.Pages.{nos_of, place_of, picked, present, absent, numbers_in, first_in, Says};
 
-// Where the page of number k stands, counted from 0; n if no page has it.
-pub fn page_of(nos: [u8; 9], n: usize, k: u8) -> usize
+// Where the page of number k stands, counted from 0, if a page has it.
+pub fn page_of(nos: [u8; 9], n: usize, k: u8) -> Option<usize>
     requires { n ≤ 9 }
-    ensures { (l : List Sheet) → nos_of l ≡ take n nos → result ≡ place_of k l }
+    ensures { (l : List Sheet) → nos_of l ≡ take n nos
+        → MatchOption result (place_of k l ≡ n) (λ i. (i ≡ place_of k l) × (i < n)) }
 {
-    let mut i = 0; // The first page counts too.
-    while i < n {
-        if nos[i] == k {
-            return i;
+    for place in 0..n {
+        if nos[place] == k {
+            return Some(place);
         }
-        i += 1;
     }
-    n
+    None
 }
 
-// The first page, counted from 1, whose number an earlier one has; 0 if there is none.
-pub fn twice(nos: [u8; 9], n: usize) -> usize
+// The first page, counted from 1, whose number an earlier one has, if there is one.
+pub fn twice(nos: [u8; 9], n: usize) -> Option<usize>
     requires { n ≤ 9 }
-    ensures { (l : List Sheet) → nos_of l ≡ take n nos → result ≡ page10 [] 1 l }
+    ensures { (l : List Sheet) → nos_of l ≡ take n nos → Says result (page10 [] 1 l) }
 {
-    let mut i = 0;
-    while i < n {
-        if page_of(nos, i, nos[i]) < i {
-            return i + 1;
+    for i in 0..n {
+        if page_of(nos, i, nos[i]).is_some() {
+            return Some(i + 1);
         }
-        i += 1;
     }
-    0
+    None
 }
 
 // The mask of one number; of none, if it is no page's number.
 pub fn bit(k: u8) -> u16
     ensures { result ≡ mask_of (picked (eqb k) 1 9) }
 {
-    if k < 1 {
-        return 0;
+    match k {
+        1..=9 => 1u16 << k,
+        _ => 0,
     }
-    if k > 9 {
-        return 0;
-    }
-    1u16 << k
 }
 
 // A mask with one number more.
@@ -64,10 +58,8 @@ pub fn have(nos: [u8; 9], n: usize) -> u16
     ensures { (l : List Sheet) → nos_of l ≡ take n nos → result ≡ mask_of (present l) }
 {
     let mut mask = 0u16;
-    let mut i = 0;
-    while i < n {
+    for i in 0..n {
         mask = with_number(mask, nos[i]);
-        i += 1;
     }
     mask
 }
@@ -89,12 +81,12 @@ pub fn missing_count(mask: u16) -> u32
     u16::count_ones(mask)
 }
 
-// The lowest number of a mask; 0 if it has none.
-pub fn lowest_missing(mask: u16) -> u32
-    ensures { result ≡ first_of (numbers_in mask) }
+// The lowest number of a mask, if it has one.
+pub fn lowest_missing(mask: u16) -> Option<u32>
+    ensures { result ≡ first_in (numbers_in mask) }
 {
     if mask == 0 {
-        return 0;
+        return None;
     }
-    u16::trailing_zeros(mask)
+    Some(u16::trailing_zeros(mask))
 }

@@ -7,47 +7,38 @@ ghost use Rattle.tape.specs.Tape.{aside};
 ghost use Rattle.tape.specs.Rooms.{tape_room, side_room};
 ghost use Rattle.page.specs.Walking.{blanks, Blank};
 ghost use Rattle.reader.specs.Tapes.{Taken};
-ghost use Rattle.reader.specs.Answers.{numbers_of, told_of};
+ghost use Rattle.reader.specs.Answers.{numbers_told, told_of};
 ghost use Rattle.reader.specs.Promise.{Promised, answered};
 
-use crate::answer::{Answer, refusal_number, refused_page};
+use crate::answer::Refusal;
 use crate::call::{call_fits, room_fits};
-use crate::joining::{fill_all, heads, total_rows};
+use crate::joining::{fill_all, heads, page_at, total_rows};
 use crate::pages::{have, lowest_missing, missing_mask, twice};
 use crate::taping::{BLANKS, NINE, ONE, lay_all, take_all};
 use plan::Plan;
 use room::clear;
-use sheet::judge::{Verdict, judge_page};
+use sheet::judge::judge_page;
 
-// What reading gives: the answer, and the plan by value. The plan is empty where the answer is a refusal.
-#[derive(Clone, Copy)]
-pub struct Reading {
-    pub answer: Answer,
-    pub plan: Plan,
-}
+// What reading gives: the plan by value, or the refusal.
+pub type Reading = Result<Plan, Refusal>;
 
-// Judges each page in the order handed in. Answers the refusal of the first page that has a fault; `Plan` if none has one.
-pub fn judge_all<'a>(buffer: &'a [u8], starts: &'a [usize], lens: &'a [usize]) -> Answer
+// Judges each page in the order handed in, up to the first page that has a fault, whose refusal is answered.
+pub fn judge_all<'a>(
+    buffer: &'a [u8],
+    starts: &'a [usize],
+    lens: &'a [usize],
+) -> Result<(), Refusal>
     requires { (length starts.now ≤ 9) × (inside buffer.now starts.now lens.now ≡ true) }
-    ensures { numbers_of result ≡ told_of (judge_all 1 (pages_at buffer.now starts.now lens.now)) }
+    ensures { numbers_told result ≡ told_of (judge_all 1 (pages_at buffer.now starts.now lens.now)) }
 {
     let mut scratch = [0u8; Plan::PAGE];
-    let n = starts.len();
-    let mut i = 0;
-    while i < n {
-        let s = starts[i];
-        let e = s + lens[i];
-        let verdict = judge_page(&buffer[s..e], &mut scratch);
-        match verdict {
-            Verdict::Refused { number, place } => {
-                return refused_page(number as u32, i as u32 + 1, place as u32);
-            }
-            Verdict::Fine => {
-                i += 1;
-            }
+    for i in 0..starts.len() {
+        let page = page_at(buffer, starts, lens, i);
+        if let Err(fault) = judge_page(page, &mut scratch) {
+            return Err(Refusal::of_page(fault.cause, i as u32 + 1, fault.place as u32));
         }
     }
-    Answer::Plan
+    Ok(())
 }
 
 // Reads the pages of a call that all lie on a tape, and so have no fault: heads (9), numbers twice (10) or missing (11), rows (12), then the plan.
@@ -68,41 +59,22 @@ fn read_tapes<'a>(
         rows.old text.old result rows.new text.new }
 {
     let compared = heads(buffer, starts, lens, side, tape, firsts);
-    let other = compared.other;
-    if other != 0 {
-        return Reading {
-            answer: Answer::OtherHead(other as u32),
-            plan: Plan::empty(),
-        };
+    if let Some(other) = compared.other {
+        return Err(Refusal::OtherHead(other as u32));
     }
-    let n = starts.len();
     let nos = compared.nos;
     let z = compared.count;
-    let again = twice(nos, n);
-    if again != 0 {
-        return Reading {
-            answer: Answer::NumberTwice(again as u32),
-            plan: Plan::empty(),
-        };
+    if let Some(again) = twice(nos, starts.len()) {
+        return Err(Refusal::NumberTwice(again as u32));
     }
-    let lowest = lowest_missing(missing_mask(have(nos, n), z));
-    if lowest != 0 {
-        return Reading {
-            answer: Answer::NumberMissing(lowest),
-            plan: Plan::empty(),
-        };
+    if let Some(lowest) = lowest_missing(missing_mask(have(nos, starts.len()), z)) {
+        return Err(Refusal::NumberMissing(lowest));
     }
     if total_rows(buffer, starts, lens, side, tape, firsts, nos, z) > Plan::ROWS {
-        return Reading {
-            answer: Answer::TooManyRows,
-            plan: Plan::empty(),
-        };
+        return Err(Refusal::TooManyRows);
     }
     let plan = fill_all(buffer, starts, lens, side, tape, firsts, nos, z, rows, text);
-    Reading {
-        answer: Answer::Plan,
-        plan: plan,
-    }
+    Ok(plan)
 }
 
 // Reads a call over a tape and a side room lent for it: in one pass over each page where all are surely sheets, else each page is judged first.
@@ -121,18 +93,10 @@ fn read_on<'a>(
     ensures { Promised (answered rows.old text.old buffer.now starts.now lens.now)
         rows.old text.old result rows.new text.new }
 {
-    let taken = take_all(buffer, starts, lens, tape, side);
-    if taken.all {
-        let firsts = taken.firsts;
+    if let Some(firsts) = take_all(buffer, starts, lens, tape, side) {
         return read_tapes(buffer, starts, lens, side, tape, &firsts, rows, text);
     }
-    let judged = judge_all(buffer, starts, lens);
-    if refusal_number(judged) != 0 {
-        return Reading {
-            answer: judged,
-            plan: Plan::empty(),
-        };
-    }
+    judge_all(buffer, starts, lens)?;
     clear(tape, 0, BLANKS);
     let firsts = lay_all(buffer, starts, lens, tape, side);
     read_tapes(buffer, starts, lens, side, tape, &firsts, rows, text)
@@ -151,17 +115,8 @@ pub fn read<'a>(
     ensures { Promised (answered rows.old text.old buffer.now starts.now lens.now)
         rows.old text.old result rows.new text.new }
 {
-    if !room_fits(rows.len(), text.len()) {
-        return Reading {
-            answer: Answer::NoRoom,
-            plan: Plan::empty(),
-        };
-    }
-    if !call_fits(buffer, starts, lens) {
-        return Reading {
-            answer: Answer::NoRoom,
-            plan: Plan::empty(),
-        };
+    if !room_fits(rows.len(), text.len()) || !call_fits(buffer, starts, lens) {
+        return Err(Refusal::NoRoom);
     }
     if starts.len() == 1 {
         let mut tape = [0u16; ONE];

@@ -1,5 +1,5 @@
 // The pages of a call onto one tape, one behind the other: in one pass where each is surely a sheet, else once they are judged.
-ghost use Rattle.std.specs.Prelude.{◌≡◌, true, ◌+◌, ◌*◌, ◌≤◌, ◌<◌, length};
+ghost use Rattle.std.specs.Prelude.{◌≡◌, true, ◌+◌, ◌*◌, ◌≤◌, ◌<◌, length, IfSome};
 ghost use Rattle.paper.specs.Calls.{inside, pages_at};
 ghost use Rattle.tape.specs.Tape.{aside, Makes};
 ghost use Rattle.tape.specs.Rooms.{tape_room, side_room};
@@ -13,9 +13,9 @@ use fields::lookup::{keys, limits};
 use fields::places::FIELDS;
 use plan::Plan;
 use quick::names::letter_table;
-use quick::pages::{Made, take_page};
+use quick::pages::take_page;
 use quoted::odd_table;
-use tape::exact::lay_page;
+use tape::exact::{Made, lay_page};
 
 // How many numbers a tape begins with that are 0: the values of an element that is not there.
 pub const BLANKS: usize = 20;
@@ -30,13 +30,6 @@ pub const TWO: usize = BLANKS + 2 * PAGE;
 
 pub const NINE: usize = BLANKS + 9 * PAGE;
 
-// The pages of a call on a tape: whether all are, and where each begins.
-#[derive(Clone, Copy)]
-pub struct Taping {
-    pub all: bool,
-    pub firsts: [usize; 10],
-}
-
 // Takes one page onto the tape, from `first` on, if it is surely a sheet.
 fn take(
     page: &[u8],
@@ -48,59 +41,43 @@ fn take(
     first: usize,
     side: &mut [u8],
     used: usize,
-) -> Made
+) -> Option<Made>
     requires { Names keys.now letters.now × Tables odd.now limits.now
         × (first ≤ length tape.old) × (length tape.old < 65536) × (used ≤ length side.old) × (length side.old < aside) }
-    ensures { (result.end ≡ 0 → ⊥) → Makes page.now tape.old tape.new first result.end side.old side.new used result.used }
+    ensures { IfSome result (λ made. Makes page.now tape.old tape.new first made.end side.old side.new used made.used) }
 {
-    let n = page.len();
-    if n == 0 {
-        return Made { end: 0, used: 0 };
-    }
-    if n > Plan::PAGE {
-        return Made { end: 0, used: 0 };
+    if page.len() == 0 || page.len() > Plan::PAGE {
+        return None;
     }
     take_page(page, keys, letters, odd, limits, tape, first, side, used)
 }
 
-// Takes the pages of a call onto the tape, if each is surely a sheet.
+// Takes the pages of a call onto the tape, if each is surely a sheet; tells where each begins.
 pub fn take_all<'a>(
     buffer: &'a [u8],
     starts: &'a [usize],
     lens: &'a [usize],
     tape: &mut [u16],
     side: &mut [u8],
-) -> Taping
+) -> Option<[usize; 10]>
     requires { (length starts.now ≤ 9) × (inside buffer.now starts.now lens.now ≡ true) × Blank tape.old × (length tape.old < 65536) × (length side.old < aside) }
-    ensures { result.all ≡ true → Taken buffer.now starts.now lens.now side.new tape.new result.firsts }
+    ensures { IfSome result (λ firsts. Taken buffer.now starts.now lens.now side.new tape.new firsts) }
 {
     let keys = keys();
     let letters = letter_table();
     let odd = odd_table();
     let limits = limits();
-    let n = starts.len();
     let mut firsts = [BLANKS; 10];
-    let mut m = 0;
-    let mut k = 0;
-    while k < n {
+    let mut used = 0;
+    for k in 0..starts.len() {
         let page = page_at(buffer, starts, lens, k);
         let made = take(
-            page, &keys, &letters, &odd, &limits, tape, firsts[k], side, m,
-        );
-        if made.end == 0 {
-            return Taping {
-                all: false,
-                firsts: firsts,
-            };
-        }
+            page, &keys, &letters, &odd, &limits, tape, firsts[k], side, used,
+        )?;
         firsts[k + 1] = made.end;
-        m = made.used;
-        k += 1;
+        used = made.used;
     }
-    Taping {
-        all: true,
-        firsts: firsts,
-    }
+    Some(firsts)
 }
 
 // Lays the pages of a call, each of which is known to be a sheet, onto the tape; tells where each begins.
@@ -116,16 +93,13 @@ pub fn lay_all<'a>(
     ensures { Taken buffer.now starts.now lens.now side.new tape.new result }
 {
     let keys = keys();
-    let n = starts.len();
     let mut firsts = [BLANKS; 10];
-    let mut m = 0;
-    let mut k = 0;
-    while k < n {
+    let mut used = 0;
+    for k in 0..starts.len() {
         let page = page_at(buffer, starts, lens, k);
-        let made = lay_page(page, &keys, tape, firsts[k], side, m);
+        let made = lay_page(page, &keys, tape, firsts[k], side, used);
         firsts[k + 1] = made.end;
-        m = made.used;
-        k += 1;
+        used = made.used;
     }
     firsts
 }

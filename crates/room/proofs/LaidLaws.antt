@@ -7,8 +7,8 @@ use Prim.Native.Nat.{ℕ, ◌+◌, ◌≤◌, ◌<◌}
 use native.Mathlib.Nat.{add-zero}
 use native.Mathlib.Numerals.{add-one}
 use native.Mathlib.Omega.{arith}
-use lib.ListN.{length, take, drop, get_or, set, length-append, length-take, length-drop, take-append-drop}
-use lib.Seq.{take_at, drop_at, drop-drop, drop-cons, set_split, length-take-le}
+use lib.ListN.{length, take, drop, set, length-append, length-take, length-drop, take-append-drop}
+use lib.Seq.{take_at, drop_at, drop-drop, set_split, length-take-le}
 use Rattle.room.specs.Laid.{laid}
 
 -- one byte stored is one byte laid
@@ -109,10 +109,3 @@ next_byte {out₀} {out} {at} {n} {x} {all} {t} L h =
 -- nothing is laid yet, of a word from its start on
 pub start_at : (out : List ℕ) (at : ℕ) (all : List ℕ) → at ≤ length out → Laying out out at (at + 0) all all
 start_at out at all h = rw (add-zero at) (start out at all h)
-
--- a byte of a word is stored
-pub word_turn : {out₀ out word : List ℕ} {n i : ℕ} → n + length word ≤ length out₀ → i < length word → Laying out₀ out n (n + i) word (drop i word)
-    → Laying out₀ (set out (n + i) (get_or word i 0)) n (n + (i + 1)) word (drop (i + 1) word)
-word_turn {out₀} {out} {word} {n} {i} f h L =
-    let e : n + (i + 1) ≡ n + i + 1 = omega arith in
-    rw (e, add-one i) (next_byte (told L (drop-cons word i 0 h)) (omega arith))

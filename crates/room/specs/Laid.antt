@@ -3,5 +3,5 @@
 use Rattle.std.specs.Prelude.{List, ◌++◌, ℕ, ◌+◌, length, take, drop}
 
 -- the room with p from place `at` on
-abbrev pub laid : List ℕ → ℕ → List ℕ → List ℕ
+abbrev pub laid : {A : Type 0} → List A → ℕ → List A → List A
 laid room at p = take at room ++ (p ++ drop (at + length p) room)

@@ -17,20 +17,14 @@ pub fn wide(x: u32) -> usize
 pub fn lies_in(size: usize, start: usize, len: usize) -> bool
     ensures { result ≡ leb (start + len) size }
 {
-    if start > size {
-        return false;
-    }
-    len <= size - start
+    start <= size && len <= size - start
 }
 
 // The byte at `i`, or 0 behind the last one.
 pub fn byte_or(s: &[u8], i: usize) -> u8
     ensures { result ≡ get_or s.now i 0 }
 {
-    if i < s.len() {
-        return s[i];
-    }
-    0
+    s.get(i).copied().unwrap_or(0)
 }
 
 // Whether the bytes from `from` to `to` are those of the word.
@@ -38,42 +32,17 @@ pub fn spells(s: &[u8], from: usize, to: usize, word: &[u8]) -> bool
     requires { (from ≤ to) × (to ≤ length s.now) }
     ensures { result ≡ same (slice from to s.now) word.now }
 {
-    if to - from != word.len() {
-        return false;
-    }
-    let mut i = 0;
-    while i < word.len() {
-        if s[from + i] != word[i] {
-            return false;
-        }
-        i += 1;
-    }
-    true
+    &s[from..to] == word
 }
 
-// Writes a word into `out` from `n` on, and returns the place behind it. No other byte of `out` changes.
-pub fn lay(out: &mut [u8], n: usize, word: &[u8]) -> usize
+// Writes a word into `out` from `n` on, bytes or numbers, and returns the place behind it. Nothing else in `out` changes.
+pub fn lay<T: Copy>(out: &mut [T], n: usize, word: &[T]) -> usize
     requires { n + length word.now ≤ length out.old }
     ensures { (result ≡ n + length word.now) × (out.new ≡ laid out.old n word.now) }
 {
-    let mut i = 0;
-    while i < word.len() {
-        out[n + i] = word[i];
-        i += 1;
-    }
-    n + word.len()
-}
-
-// Writes numbers into others from `n` on. All other numbers stay.
-pub fn lay_numbers(out: &mut [u32], n: usize, numbers: &[u32])
-    requires { n + length numbers.now ≤ length out.old }
-    ensures { out.new ≡ laid out.old n numbers.now }
-{
-    let mut i = 0;
-    while i < numbers.len() {
-        out[n + i] = numbers[i];
-        i += 1;
-    }
+    let end = n + word.len();
+    out[n..end].copy_from_slice(word);
+    end
 }
 
 // Puts 0 at every place from one up to another. The numbers before stay.
@@ -81,9 +50,5 @@ pub fn clear(numbers: &mut [u16], from: usize, to: usize)
     requires { (from ≤ to) × (to ≤ length numbers.old) }
     ensures { (take from numbers.new ≡ take from numbers.old) × ((j : ℕ) → from ≤ j → j < to → get_or numbers.new j 0 ≡ 0) }
 {
-    let mut i = from;
-    while i < to {
-        numbers[i] = 0;
-        i += 1;
-    }
+    numbers[from..to].fill(0);
 }

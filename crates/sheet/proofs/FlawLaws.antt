@@ -11,8 +11,12 @@ use lib.Dec.{eqb, leb, ltb}
 use lib.ListN.{length, get_or, take, drop, length-take, length-map, drop_of_length-le}
 use lib.Seq.{slice, drop-cons, take_all, take-append_seam}
 use borrow.Author.Tests.{ne_eqb, eq-eqb, lt-ltb, le-ltb, ltb-true, ltb-false, leb-true, leb-false, lt-leb, not-false, eqb-true, eqb-false}
+use Rattle.std.specs.Prelude.{Option, None, Some}
 use Rattle.paper.specs.Lists.{bytes, if, same, is_empty, every, number, count}
 use Rattle.paper.specs.Bytes.{is_decoded}
+use Rattle.paper.specs.Causes.{cause_number, flaw_number}
+use Rattle.paper.specs.declared.Cause.{Cause}
+use Rattle.paper.specs.declared.Cause.TheVariants.{Size, Byte, Malformed, OutOfPlace, Edition, Value, Incomplete}
 use Rattle.paper.specs.Grammar.{Attr}
 use Rattle.paper.specs.Fields.{Kind, unknown, MP, P, A, O, S, M, W, R, X, code, Rule, page_no, Field, field, fields_of, excluded, Pair}
 use Rattle.paper.specs.Values.{value}
@@ -30,33 +34,7 @@ use Rattle.sheet.specs.Found.{settled_in, there_in, raw_at, raws_at, told, stand
 use Rattle.sheet.specs.Flaws.{settle_by, fields_flaw, pages_flaw, digits_flaw, clash_there, clash_at}
 use Rattle.sheet.proofs.FoundLaws.{slots_found, shown_at_lem, standing_at, there_place}
 
--- ---- a value in the page
-
--- a span reaches no further than the page
-clipped : (w : List ℕ) (a e : ℕ) → slice a (min e (length w)) w ≡ slice a e w
-clipped w a e = go (leb e (length w)) refl
-  where
-    go : (b : Bool) → leb e (length w) ≡ b → slice a (min e (length w)) w ≡ slice a e w
-    go true q = let h = leb-true e (length w) q in let f : min e (length w) ≡ e = omega arith in rw f
-    go false q =
-        let h = leb-false e (length w) q in
-        let f : min e (length w) ≡ length w = omega arith in
-        rw (f, take_all (length w) w (omega arith), take_all e w (omega arith))
-
--- a span that ends where it starts, or before, shows nothing
-pub no_value : (w : List ℕ) (a e m : ℕ) → m ≡ min e (length w) → m ≤ a → [] ≡ value (slice a e w)
-no_value w a e m q h =
-    let l : length (take m w) ≤ a = omega (arith, length-take m w) in
-    let f : slice a e w ≡ [] = sym (clipped w a e) ∙ ap (λ (n : ℕ). slice a n w) (sym q) ∙ drop_of_length-le (take m w) l in
-    rw f
-
--- what is written from 0 on is what the span shows
-pub value_laid : (w s t : List ℕ) (a e m r : ℕ) → m ≡ min e (length w) → r ≡ 0 + length (value (slice a m w)) → t ≡ laid s 0 (value (slice a m w)) → take r t ≡ value (slice a e w)
-value_laid w s t a e m r q p f =
-    let v : List ℕ = value (slice a m w) in
-    let g : slice a m w ≡ slice a e w = ap (λ (n : ℕ). slice a n w) q ∙ clipped w a e in
-    let z : r ≡ length v = omega arith in
-    rw (f, z, take-append_seam v (drop (0 + length v) s)) (ap value g)
+-- ---- a value in a room
 
 -- a value of some bytes of a room of m is present
 filled : (s : List ℕ) (n : ℕ) → n ≤ length s → (n ≡ 0 → ⊥) → is_empty (take n s) ≡ false
@@ -79,30 +57,21 @@ taken_empty s v n m e h l = go (eqb n 0) refl
     go true q = ap is_empty (sym (none_taken s v n e (eqb-true n 0 q))) ∙ sym q
     go false q = some_taken s v n m e h l (eqb-false n 0 q) ∙ sym q
 
--- the first byte of what is written
-pub first_taken : (s : List ℕ) (n : ℕ) → (n ≡ 0 → ⊥) → get_or s 0 0 ≡ get_or (take n s) 0 0
-first_taken s zero e = absurd (e refl)
-first_taken [] (suc n) e = refl
-first_taken (x ∷ s) (suc n) e = refl
-
--- the value that counts: none in place of a zero dose, else the value
-pub settled_zero : (r : Rule) (u v : List ℕ) (b : Bool) → u ≡ v → b ≡ is_zero r u → b ≡ true → [] ≡ settle_by r v
-settled_zero r u v b e f z = rw (← e, ← f, z)
-
-pub settled_whole : (r : Rule) (u v : List ℕ) (b : Bool) → u ≡ v → b ≡ is_zero r u → b ≡ false → u ≡ settle_by r v
-settled_whole r u v b e f z = rw (← e, ← f, z)
-
--- ---- one field
-
--- the value that counts under the rule's number is that of the field
-pub settled_field : (r : ℕ) (u v : List ℕ) (id : ℕ) → r ≡ rule_number (field_at id).rule → u ≡ settle_by (rule_at r) v → u ≡ settle (field_at id) v
-settled_field r u v id e f = f ∙ ap (λ (n : ℕ). settle_by (rule_at n) v) e ∙ ap (λ (q : Rule). settle_by q v) (rule_back (field_at id).rule)
-
 -- ---- the fields one after another
 
 -- 7, or 8, or m, by two tests
 abbrev pub by_tests : Bool → Bool → ℕ → ℕ
 by_tests a b m = if a 7 (if b 8 m)
+
+-- a field has no fault but 7 and 8
+flaw_high : (f : Field) (v : List ℕ) → 7 ≤ field_flaw f v
+unfolding field_flaw
+flaw_high f v = go (breaks f v) (f.must && is_empty v)
+  where
+    go : (a b : Bool) → 7 ≤ by_tests a b 9
+    go true b = omega arith
+    go false true = omega arith
+    go false false = omega arith
 
 module _ (m : ℕ) (fs : List Field) (vs : Slots) (j : ℕ) (h : j < length fs) (l : j < length vs) where
   abbrev here : Field
@@ -205,6 +174,19 @@ module _ (w : List ℕ) (k : Kind) (rs : List ℕ) (m j a c x : ℕ) (p : a ≡ 
   -- a field is missing
   pub turn_missing : x ≡ 8 → fields_from w k rs m j ≡ fields_from w k rs 8 (j + 1)
   turn_missing = fields_missing m (fields_of k) (told w k rs) j in_fields in_slots x found_here
+
+  high_here : 7 ≤ x
+  high_here = omega (arith, found_here, flaw_high (get_or (fields_of k) j no_field) (get_or (told w k rs) j []))
+
+  -- the same by the cause
+  pub turn_cause : (y : Cause) → cause_number y ≡ x → (y ≡ Value → ⊥) → fields_from w k rs m j ≡ fields_from w k rs (cause_number y) (j + 1)
+  turn_cause Size g n = absurd (omega (arith, high_here))
+  turn_cause Byte g n = absurd (omega (arith, high_here))
+  turn_cause Malformed g n = absurd (omega (arith, high_here))
+  turn_cause OutOfPlace g n = absurd (omega (arith, high_here))
+  turn_cause Edition g n = absurd (omega (arith, high_here))
+  turn_cause Value g n = absurd (n refl)
+  turn_cause Incomplete g n = turn_missing (sym g)
 
   -- a field has no fault
   pub turn_fine : (x ≡ 7 → ⊥) → (x ≡ 8 → ⊥) → fields_from w k rs m j ≡ fields_from w k rs m (j + 1)
@@ -366,25 +348,13 @@ module _ (ones others : List ℕ) (ts : List Bool) (i : ℕ) (h : i < length one
   pair_more : clash_there (drop i ones) (drop i others) ts ≡ (get_or ts (get_or ones i 0) false && get_or ts (get_or others i 0) false) || clash_there (drop (i + 1) ones) (drop (i + 1) others) ts
   pair_more = rw (add-one i, drop-cons ones i 0 h, drop-cons others i 0 l)
 
-  -- the one is not there
-  pair_no_one : get_or ts (get_or ones i 0) false ≡ false → clash_there (drop i ones) (drop i others) ts ≡ clash_there (drop (i + 1) ones) (drop (i + 1) others) ts
-  pair_no_one e = pair_more ∙ rw e
-
-  -- the other is not there
-  pair_no_other : get_or ts (get_or others i 0) false ≡ false → clash_there (drop i ones) (drop i others) ts ≡ clash_there (drop (i + 1) ones) (drop (i + 1) others) ts
-  pair_no_other e = pair_more ∙ go (get_or ts (get_or ones i 0) false)
-    where
-      go : (b : Bool) → (b && get_or ts (get_or others i 0) false) || clash_there (drop (i + 1) ones) (drop (i + 1) others) ts ≡ clash_there (drop (i + 1) ones) (drop (i + 1) others) ts
-      go true = rw e
-      go false = refl
-
-  -- both are there
-  pair_both : get_or ts (get_or ones i 0) false ≡ true → get_or ts (get_or others i 0) false ≡ true → clash_there (drop i ones) (drop i others) ts ≡ true
-  pair_both e f = pair_more ∙ rw (e, f)
-
 -- no pair is left
 pairs_done : (ones others : List ℕ) (ts : List Bool) (i : ℕ) → length ones ≤ i → clash_there (drop i ones) (drop i others) ts ≡ false
 pairs_done ones others ts i h = rw (drop_of_length-le ones h)
+
+no_matter : (b c : Bool) → (b && false) || c ≡ c
+no_matter true c = refl
+no_matter false c = refl
 
 -- a test that all pass is passed by each
 every_at : (p : ℕ → Bool) (l : List ℕ) (i : ℕ) → every p l ≡ true → i < length l → p (get_or l i 0) ≡ true
@@ -392,7 +362,7 @@ every_at p [] i e h = absurd (omega arith)
 every_at p (x ∷ l) zero e h = (both (p x) (every p l) e).0
 every_at p (x ∷ l) (suc i) e h = every_at p l i (both (p x) (every p l) e).1 (omega arith)
 
-module _ (e i n : ℕ) (h : e < 10) (c : n ≡ length (excluded (kind_at e))) (l : i < n) where
+module _ (e i : ℕ) (h : e < 10) (l : i < length (excluded (kind_at e))) where
   -- the pairs are as many as the ones and the others
   ones_long : i < length (ones_of (kind_at e))
   unfolding ones_of
@@ -417,33 +387,43 @@ module _ (e i n : ℕ) (h : e < 10) (c : n ≡ length (excluded (kind_at e))) (l
   abbrev pairs_from : ℕ → List ℕ → ℕ → Bool
   pairs_from j t base = clash_there (drop j (ones_of (kind_at e))) (drop j (others_of (kind_at e))) (standing (length (fields_of (kind_at e))) t base)
 
-  module _ (t : List ℕ) (base a b : ℕ) (p : a ≡ get_or (ones_of (kind_at e)) i 0) (q : b ≡ get_or (others_of (kind_at e)) i 0) where
-    one_there : get_or (standing (length (fields_of (kind_at e))) t base) (get_or (ones_of (kind_at e)) i 0) false ≡ not (eqb (get_or t (base + 2 * a) 0) 0)
-    unfolding count_of
-    one_there = standing_at (length (fields_of (kind_at e))) t base (get_or (ones_of (kind_at e)) i 0) one_within ∙ rw p
+  -- the numbers of their fields
+  abbrev one_at : List ℕ → ℕ → ℕ
+  one_at t base = get_or t (base + 2 * get_or (ones_of (kind_at e)) i 0) 0
 
-    other_there : get_or (standing (length (fields_of (kind_at e))) t base) (get_or (others_of (kind_at e)) i 0) false ≡ not (eqb (get_or t (base + 2 * b) 0) 0)
+  abbrev other_at : List ℕ → ℕ → ℕ
+  other_at t base = get_or t (base + 2 * get_or (others_of (kind_at e)) i 0) 0
+
+  module _ (t : List ℕ) (base : ℕ) where
+    one_there : get_or (standing (length (fields_of (kind_at e))) t base) (get_or (ones_of (kind_at e)) i 0) false ≡ not (eqb (one_at t base) 0)
     unfolding count_of
-    other_there = standing_at (length (fields_of (kind_at e))) t base (get_or (others_of (kind_at e)) i 0) other_within ∙ rw q
+    one_there = standing_at (length (fields_of (kind_at e))) t base (get_or (ones_of (kind_at e)) i 0) one_within
+
+    other_there : get_or (standing (length (fields_of (kind_at e))) t base) (get_or (others_of (kind_at e)) i 0) false ≡ not (eqb (other_at t base) 0)
+    unfolding count_of
+    other_there = standing_at (length (fields_of (kind_at e))) t base (get_or (others_of (kind_at e)) i 0) other_within
+
+    -- both stand in the tag, or what is left is asked
+    clash_turn : pairs_from i t base ≡ (not (eqb (one_at t base) 0) && not (eqb (other_at t base) 0)) || pairs_from (i + 1) t base
+    clash_turn = pair_more (ones_of (kind_at e)) (others_of (kind_at e)) (standing (length (fields_of (kind_at e))) t base) i ones_long others_long ∙ rw (one_there, other_there)
 
     -- the one is not there
-    pub clash_no_one : get_or t (base + 2 * a) 0 ≡ 0 → pairs_from i t base ≡ pairs_from (i + 1) t base
-    clash_no_one z = pair_no_one (ones_of (kind_at e)) (others_of (kind_at e)) (standing (length (fields_of (kind_at e))) t base) i ones_long others_long (one_there ∙ ap not (eq-eqb (get_or t (base + 2 * a) 0) 0 z))
+    pub clash_no_one : one_at t base ≡ 0 → pairs_from i t base ≡ pairs_from (i + 1) t base
+    clash_no_one z = clash_turn ∙ rw (eq-eqb (one_at t base) 0 z)
 
     -- the other is not there
-    pub clash_no_other : get_or t (base + 2 * b) 0 ≡ 0 → pairs_from i t base ≡ pairs_from (i + 1) t base
-    clash_no_other z = pair_no_other (ones_of (kind_at e)) (others_of (kind_at e)) (standing (length (fields_of (kind_at e))) t base) i ones_long others_long (other_there ∙ ap not (eq-eqb (get_or t (base + 2 * b) 0) 0 z))
+    pub clash_no_other : other_at t base ≡ 0 → pairs_from i t base ≡ pairs_from (i + 1) t base
+    clash_no_other z = clash_turn ∙ rw (eq-eqb (other_at t base) 0 z) (no_matter (not (eqb (one_at t base) 0)) (pairs_from (i + 1) t base))
 
     -- both are there
-    pub clash_both : (get_or t (base + 2 * a) 0 ≡ 0 → ⊥) → (get_or t (base + 2 * b) 0 ≡ 0 → ⊥) → pairs_from i t base ≡ true
-    clash_both y z = pair_both (ones_of (kind_at e)) (others_of (kind_at e)) (standing (length (fields_of (kind_at e))) t base) i ones_long others_long
-        (one_there ∙ ap not (ne_eqb (get_or t (base + 2 * a) 0) 0 y)) (other_there ∙ ap not (ne_eqb (get_or t (base + 2 * b) 0) 0 z))
+    pub clash_both : (one_at t base ≡ 0 → ⊥) → (other_at t base ≡ 0 → ⊥) → pairs_from i t base ≡ true
+    clash_both y z = clash_turn ∙ rw (ne_eqb (one_at t base) 0 y, ne_eqb (other_at t base) 0 z)
 
 -- no pair is left
-pub clash_none : (e i n : ℕ) (t : List ℕ) (base : ℕ) → n ≡ length (excluded (kind_at e)) → n ≤ i
+pub clash_none : (e i : ℕ) (t : List ℕ) (base : ℕ) → length (excluded (kind_at e)) ≤ i
     → clash_there (drop i (ones_of (kind_at e))) (drop i (others_of (kind_at e))) (standing (length (fields_of (kind_at e))) t base) ≡ false
 unfolding ones_of
-clash_none e i n t base c l =
+clash_none e i t base l =
     let m = length-map (excluded (kind_at e)) (λ (p : Pair). place_in p.0 (fields_of (kind_at e))) in
     pairs_done (ones_of (kind_at e)) (others_of (kind_at e)) (standing (length (fields_of (kind_at e))) t base) i (omega arith)
 
@@ -482,6 +462,26 @@ unfolding clash_at ones_of others_of
 there_clash k t i l e = rw e (clash_places (fields_of k) l (excluded k) (all_paired k))
 
 -- ---- what the raw values tell of the attributes
+
+-- 7 is the number of one cause only, and no cause has 9
+pub seven_value : (o : Option Cause) → flaw_number o ≡ 7 → o ≡ Some Value
+seven_value None e = absurd (omega arith)
+seven_value (Some Size) e = absurd (omega arith)
+seven_value (Some Byte) e = absurd (omega arith)
+seven_value (Some Malformed) e = absurd (omega arith)
+seven_value (Some OutOfPlace) e = absurd (omega arith)
+seven_value (Some Edition) e = absurd (omega arith)
+seven_value (Some Value) e = refl
+seven_value (Some Incomplete) e = absurd (omega arith)
+
+pub low_cause : (c : Cause) → cause_number c < 9
+low_cause Size = omega arith
+low_cause Byte = omega arith
+low_cause Malformed = omega arith
+low_cause OutOfPlace = omega arith
+low_cause Edition = omega arith
+low_cause Value = omega arith
+low_cause Incomplete = omega arith
 
 -- no value breaks its field where the fields' fault is not 7
 pub unbroken : (k : Kind) (vs : Slots) (own : ℕ) → own ≡ fields_flaw 9 (fields_of k) vs → (own ≡ 7 → ⊥) → broken (fields_of k) vs ≡ false
@@ -560,15 +560,6 @@ module _ {w : List ℕ} {k : Kind} {rs : List ℕ} {l : List Attr} (T : Tells w 
               go false true l = absurd (omega arith)
               go false false l = refl
 
-          -- a missing field
-          pub flaw_eight : own ≡ 8 → Least 8
-          unfolding fields_flaw
-          flaw_eight f = alone 8 (go (missing (fields_of k) vs) (ap (λ (b : Bool). by_tests b (missing (fields_of k) vs) 9) (sym whole) ∙ sym p ∙ f))
-            where
-              go : (m : Bool) → by_tests false m 9 ≡ 8 → 8 ≡ by_tests false (m || clash_at k rs 0 || false) 9
-              go true e = refl
-              go false e = absurd (omega arith)
-
           -- an excluded pair
           pub flaw_clash : true ≡ clash_at k rs 0 → Least 8
           flaw_clash f = alone 8 (rw (← f) (go (missing (fields_of k) vs)))
@@ -577,14 +568,14 @@ module _ {w : List ℕ} {k : Kind} {rs : List ℕ} {l : List Attr} (T : Tells w 
               go true = refl
               go false = refl
 
-          -- none
-          pub flaw_none : (own ≡ 8 → ⊥) → false ≡ clash_at k rs 0 → Least 9
+          -- a missing field, or none
+          pub flaw_rest : false ≡ clash_at k rs 0 → Least own
           unfolding fields_flaw
-          flaw_none f g = alone 9 (rw (← g) (go (missing (fields_of k) vs) (λ z. f (p ∙ rw whole z))))
+          flaw_rest g = alone own (p ∙ rw (whole, ← g) (go (missing (fields_of k) vs)))
             where
-              go : (m : Bool) → (by_tests false m 9 ≡ 8 → ⊥) → 9 ≡ by_tests false (m || false || false) 9
-              go true f = absurd (f refl)
-              go false f = refl
+              go : (m : Bool) → by_tests false m 9 ≡ by_tests false (m || false || false) 9
+              go true = refl
+              go false = refl
 
 -- ---- an M that needs a W
 

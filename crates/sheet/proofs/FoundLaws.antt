@@ -218,11 +218,11 @@ at_start w k at t h l e =
 module _ {w : List ℕ} {k : Kind} {at i : ℕ} {t : List ℕ} (H : Held w k at i t) where
   -- the tag's end
   pub at_stop : (c : Bool) → inside_at w i ≡ stops c
-      → (false ≡ strange k (names (inside_at w at).attrs)) × (◌≡◌ {A = Bool} false false → (c ≡ (inside_at w at).shut) × Tells w k t (inside_at w at).attrs)
+      → (strange k (names (inside_at w at).attrs) ≡ false) × (c ≡ (inside_at w at).shut) × Tells w k t (inside_at w at).attrs
   unfolding strange
   at_stop c e =
       let all : (inside_at w at).attrs ≡ H.done = H.whole ∙ rw e (append-nil H.done) in
-      (rw (all, H.fitting, H.once), λ z. (sym (H.closing ∙ ap (λ (x : Inside). x.shut) e), rw all H.tells))
+      (rw (all, H.fitting, H.once), sym (H.closing ∙ ap (λ (x : Inside). x.shut) e), rw all H.tells)
 
   module _ (n r : List ℕ) (I : Inside) (e : inside_at w i ≡ more n r I) where
     all_names : names (inside_at w at).attrs ≡ names H.done ++ n ∷ names I.attrs
@@ -231,7 +231,7 @@ module _ {w : List ℕ} {k : Kind} {at i : ℕ} {t : List ℕ} (H : Held w k at 
     -- j is the place of its field among the element's c fields
     module _ (j c : ℕ) (p : j ≡ place_in n (fields_of k)) (q : c ≡ count_of k) where
       -- an attribute that is unknown
-      pub at_unknown : c ≤ j → true ≡ strange k (names (inside_at w at).attrs)
+      pub at_unknown : c ≤ j → strange k (names (inside_at w at).attrs) ≡ true
       unfolding strange count_of
       at_unknown h =
           let x : fits k n ≡ false = known n (fields_of k) ∙ le-ltb (place_in n (fields_of k)) (length (fields_of k)) (omega arith) in
@@ -253,12 +253,12 @@ module _ {w : List ℕ} {k : Kind} {at i : ℕ} {t : List ℕ} (H : Held w k at 
             ∙ ap (λ (m : ℕ). not (eqb (get_or t m 0) 0)) place
 
         -- an attribute that stands twice
-        pub at_twice : (get_or t (2 * j) 0 ≡ 0 → ⊥) → true ≡ strange k (names (inside_at w at).attrs)
+        pub at_twice : (get_or t (2 * j) 0 ≡ 0 → ⊥) → strange k (names (inside_at w at).attrs) ≡ true
         unfolding strange
         at_twice z =
             let x : elem n (names H.done) ≡ true = stands ∙ ap not (ne_eqb (get_or t (2 * j) 0) 0 z) in
             let y = twice_seam (names H.done) (names I.attrs) n x in
-            rw (all_names, y) (sym (or_true (not (every (fits k) (names H.done ++ n ∷ names I.attrs)))))
+            rw (all_names, y) (or_true (not (every (fits k) (names H.done ++ n ∷ names I.attrs))))
 
         -- an attribute more, whose raw bytes lie from a up to b
         pub at_next : get_or t (2 * j) 0 ≡ 0 → (a b : ℕ) → r ≡ slice a b w → I ≡ inside_at w (b + 1) → 0 < a → a ≤ b → b < length w

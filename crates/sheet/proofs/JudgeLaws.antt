@@ -4,30 +4,36 @@ use mathlib.Core.Path.{◌≡◌, refl, ap, sym, ◌∙◌}
 use mathlib.Core.Bool.{Bool, true, false}
 use mathlib.Core.Option.{Option, none, some}
 use mathlib.Core.List.{List, [], ◌∷◌}
-use Prim.Native.Nat.{ℕ, ◌≤◌, ◌<◌}
+use Prim.Native.Nat.{ℕ, ◌+◌, ◌-◌, ◌≤◌, ◌<◌}
 use native.Mathlib.Omega.{arith}
 use lib.Dec.{eqb}
-use lib.ListN.{length}
+use lib.ListN.{length, take, drop}
+use lib.Seq.{slice}
+use Rattle.std.specs.Prelude.{Some, Result, Ok, Err, MatchResult}
 use borrow.Author.Tests.{ne_eqb, lt-ltb, le-ltb, le-leb, lt-leb}
 use Rattle.paper.specs.Lists.{if, every}
 use Rattle.paper.specs.Bytes.{is_allowed, first_refused}
 use Rattle.paper.specs.Grammar.{Attr, Tag, start, end, placed}
 use Rattle.paper.specs.Fields.{code}
 use Rattle.paper.specs.Machine.{before, scan, eaten}
-use Rattle.paper.specs.Judging.{Fault, names, Sheet, refused, sheet, judge_tags, judge}
+use Rattle.paper.specs.Causes.{cause_number}
+use Rattle.paper.specs.declared.Cause.{Cause}
+use Rattle.paper.specs.declared.Cause.TheVariants.{Size, Byte, Malformed, OutOfPlace, Edition, Value, Incomplete}
+use Rattle.paper.specs.Judging.{Fault, names, Sheet, Judged, refused, sheet, judge_tags, judge}
 use Rattle.paper.proofs.Small.{unequal}
 use Rattle.paper.proofs.Exact.{exact}
 use Rattle.markup.specs.Extent.{extent_by, extent_of}
-use Rattle.markup.specs.Walk.{tags_at, ended}
-use Rattle.markup.specs.declared.scan.Extent.TheVariants.{Whole, Good}
+use Rattle.markup.specs.Walk.{tags_at, tag_of, inside_at, ended}
+use Rattle.markup.specs.declared.walk.Mark.TheVariants.{Start}
 use Rattle.markup.proofs.Walked.{walked}
 use Rattle.fields.specs.Places.{kind_at}
 use Rattle.fields.proofs.TableLaws.{kind_back}
 use Rattle.fields.proofs.SetLaws.{every_run}
+use Rattle.room.proofs.Parts.{part_is}
 use Rattle.sheet.specs.Fold.{St, given, kind_under, barred, strange, opened, closed, finished, judge_fold, fold_page, answer}
 use Rattle.sheet.specs.Content.{content_of}
-use Rattle.sheet.specs.Judged.{left, verdict_by, verdict_of}
-use Rattle.sheet.specs.declared.judge.Verdict.TheVariants.{Refused, Fine}
+use Rattle.sheet.specs.Judged.{fault_at, left, is_fine}
+use Rattle.sheet.specs.declared.state.Refusal.{Refusal}
 use Rattle.sheet.proofs.FoldJudge.{fold_start}
 use Rattle.sheet.proofs.FoldContent.{fold_answer}
 
@@ -60,32 +66,47 @@ module _ (s : St) (T ts : List Tag) where
       at true = behind_end (opened s (kind_at k) i l) ts
       at false = refl
 
+-- the same of a tag that the walk finds: its `<` stands at place i of the page, its name ends at e
+pub on_tag : (w : List ℕ) (s : St) (at i e k : ℕ) → tags_at w at ≡ tag_of w (Some (Start i e)) → k ≡ code (kind_under s.cur (take (e - (i + 1)) (drop (i + 1) w)))
+    → judge_fold s (tags_at w at)
+    ≡ if (barred s (kind_at k)) (given 5 i)
+    (if (strange (kind_at k) (names (inside_at w e).attrs)) (given 5 i)
+    (judge_fold (left (inside_at w e).shut (opened s (kind_at k) i (inside_at w e).attrs)) (tags_at w (i + 1))))
+on_tag w s at i e k t h =
+    on_start s (tags_at w at) (tags_at w (i + 1)) i (slice (i + 1) e w) (inside_at w e).attrs (inside_at w e).shut k t
+    (h ∙ ap (λ (n : List ℕ). code (kind_under s.cur n)) (part_is w (i + 1) e))
+
 -- ---- the answer for a page
 
--- a 5 at a place is the answer
-pub five_at : (f : Fault) (i : ℕ) → f ≡ given 5 i → Refused 5 i ≡ verdict_by f
-five_at f i e = ap verdict_by (sym e)
+-- a refusal as the least fault is the answer
+refused_by : (c : Cause) (i : ℕ) (s : Sheet) → answer (given (cause_number c) i) s ≡ refused (cause_number c) i
+refused_by Size i s = refl
+refused_by Byte i s = refl
+refused_by Malformed i s = refl
+refused_by OutOfPlace i s = refl
+refused_by Edition i s = refl
+refused_by Value i s = refl
+refused_by Incomplete i s = refl
 
-verdict_answer : (f : Fault) (s : Sheet) → verdict_of (answer f s) ≡ verdict_by f
-verdict_answer f s = at (eqb f.no 9)
-  where
-    at : (b : Bool) → verdict_of (if b (sheet s) (refused f.no f.place)) ≡ if b Fine (Refused f.no f.place)
-    at true = refl
-    at false = refl
+-- what a least fault answers, by what is told of it
+told_by : (f : Fault) (s : Sheet) (r : Result (Unit {0}) Refusal) → MatchResult r (λ u. f.no ≡ 9) (λ g. f ≡ fault_at g)
+    → MatchResult r (λ u. is_fine (answer f s) ≡ true) (λ g. answer f s ≡ refused (cause_number g.cause) g.place)
+told_by f s (Ok u) e = rw e
+told_by f s (Err g) e = rw e (refused_by g.cause g.place s)
 
 -- a page without bytes is refused
-pub page_empty : (w : List ℕ) → length w ≡ 0 → verdict_of (judge w) ≡ Refused 2 0
+pub page_empty : (w : List ℕ) → length w ≡ 0 → judge w ≡ refused 2 0
 unfolding judge
 page_empty w e = rw e
 
 -- a page above 1,400 bytes is refused
-pub page_long : (w : List ℕ) → (length w ≡ 0 → ⊥) → 1400 < length w → verdict_of (judge w) ≡ Refused 2 0
+pub page_long : (w : List ℕ) → (length w ≡ 0 → ⊥) → 1400 < length w → judge w ≡ refused 2 0
 unfolding judge
 page_long w z h = rw (ne_eqb (length w) 0 z, lt-ltb 1400 (length w) h)
 
 module _ (w : List ℕ) (z : length w ≡ 0 → ⊥) (h : length w ≤ 1400) where
   -- a byte that is not allowed is refused
-  pub page_bytes_lem : (i : ℕ) → i ≡ first_refused w → i < length w → verdict_of (judge w) ≡ Refused 3 i
+  pub page_bytes_lem : (i : ℕ) → i ≡ first_refused w → i < length w → judge w ≡ refused 3 i
   unfolding judge
   page_bytes_lem i e g = rw (ne_eqb (length w) 0 z, le-ltb 1400 (length w) h, every_run is_allowed w, ← e, lt-leb (length w) i g)
 
@@ -94,19 +115,26 @@ module _ (w : List ℕ) (z : length w ≡ 0 → ⊥) (h : length w ≤ 1400) whe
     allowed = every_run is_allowed w ∙ rw (← e) (le-leb (length w) i g)
 
     -- a malformed page is refused where its longest good beginning ends
-    pub page_malformed : (k : ℕ) → Good k ≡ extent_of w → verdict_of (judge w) ≡ Refused 4 k
+    pub page_malformed : (k : ℕ) → Err k ≡ extent_of w → judge w ≡ refused 4 k
     unfolding judge extent_of
     page_malformed k q = rw (ne_eqb (length w) 0 z, le-ltb 1400 (length w) h, allowed) (at (scan before w) q)
       where
-        at : (o : Option (List Tag)) → Good k ≡ extent_by o (eaten before w) → verdict_of (judge_tags o w) ≡ Refused 4 k
+        at : (o : Option (List Tag)) → Err k ≡ extent_by o (eaten before w) → judge_tags o w ≡ refused 4 k
         at none q = let e : k ≡ eaten before w = cc in rw (← e)
         at (some t) q = let y : ◌≡◌ {A = ℕ} 0 1 = cc in unequal y
 
     -- a well-formed page is answered by its tags
-    pub page_whole : Whole ≡ extent_of w → verdict_of (judge w) ≡ verdict_by (fold_page (tags_at w 0))
+    page_folded : Ok tt ≡ extent_of w → (s : Sheet) × (judge w ≡ answer (fold_page (tags_at w 0)) s)
     unfolding extent_of
-    page_whole q = at (scan before w) refl q
+    page_folded q = at (scan before w) refl q
       where
-        at : (o : Option (List Tag)) → scan before w ≡ o → Whole ≡ extent_by o (eaten before w) → verdict_of (judge w) ≡ verdict_by (fold_page (tags_at w 0))
+        at : (o : Option (List Tag)) → scan before w ≡ o → Ok tt ≡ extent_by o (eaten before w) → (s : Sheet) × (judge w ≡ answer (fold_page (tags_at w 0)) s)
         at none p q = let y : ◌≡◌ {A = ℕ} 0 1 = cc in unequal y
-        at (some t) p q = ap verdict_of (fold_answer w t (omega arith) h allowed ((exact w t).1 p)) ∙ verdict_answer (fold_page (placed (length w) t)) (content_of (placed (length w) t)) ∙ ap (λ (ts : List Tag). verdict_by (fold_page ts)) (sym (walked w t p))
+        at (some t) p q = (
+          content_of (placed (length w) t),
+          fold_answer w t (omega arith) h allowed ((exact w t).1 p) ∙ ap (λ (ts : List Tag). answer (fold_page ts) (content_of (placed (length w) t))) (sym (walked w t p)),
+        )
+
+    pub page_whole : Ok tt ≡ extent_of w → (r : Result (Unit {0}) Refusal) → MatchResult r (λ u. (fold_page (tags_at w 0)).no ≡ 9) (λ g. fold_page (tags_at w 0) ≡ fault_at g)
+        → MatchResult r (λ u. is_fine (judge w) ≡ true) (λ g. judge w ≡ refused (cause_number g.cause) g.place)
+    page_whole q r t = let (s, e) = page_folded q in rw e (told_by (fold_page (tags_at w 0)) s r t)

@@ -1,19 +1,27 @@
 -- StateLaws: the elements by their numbers, as the state knows them.
 -- Assumes nothing.
 use mathlib.Core.Path.{◌≡◌, refl, ap, sym, ◌∙◌}
-use mathlib.Core.Bool.{Bool, true, false, ◌&&◌}
+use mathlib.Core.Bool.{Bool, true, false, ◌&&◌, ◌||◌}
 use mathlib.Core.List.{List}
-use Prim.Native.Nat.{ℕ, ◌-◌, ◌<◌}
+use Prim.Native.Nat.{ℕ, suc, ◌-◌, ◌<◌}
 use native.Mathlib.Omega.{arith}
 use lib.Dec.{eqb, leb}
-use borrow.Author.Tests.{eqb-true, ne_eqb, leb-false}
+use borrow.Author.Tests.{eqb-true, ne_eqb, le-ltb, leb-false}
 use Rattle.paper.specs.Lists.{if}
-use Rattle.paper.specs.Fields.{Kind, code, named, rank_of}
+use Rattle.paper.specs.Causes.{cause_number}
+use Rattle.paper.specs.declared.Cause.{Cause}
+use Rattle.paper.specs.declared.Cause.TheVariants.{Size, Byte, Malformed, OutOfPlace, Edition, Value, Incomplete}
+use Rattle.paper.specs.Fields.{Kind, code, named, fields_of, rank_of}
+use Rattle.paper.specs.Grammar.{Attr}
+use Rattle.paper.specs.Judging.{Fault, names, slots_of, lower}
 use Rattle.paper.proofs.Small.{below_at}
 use Rattle.paper.proofs.ByKind.{by_kind_lem}
 use Rattle.fields.specs.Places.{kind_at, under}
 use Rattle.fields.proofs.TableLaws.{code_back}
-use Rattle.sheet.specs.Fold.{St, kids_of, kind_under, full, barred, parent}
+use Rattle.sheet.specs.Fold.{St, given, kids_of, kind_under, full, barred, parent, flaw, needs_w, opened}
+use Rattle.sheet.specs.Judged.{fault_of}
+use Rattle.sheet.specs.declared.state.Refusal.{Refusal}
+use Rattle.std.specs.Prelude.{Option, None, Some}
 
 -- what may stand in the innermost open element, by the table
 pub kids_under : (c : ℕ) (n : List ℕ) → c < 10 → (c ≡ 0 → ⊥) → kind_under c n ≡ named n (under c)
@@ -50,3 +58,26 @@ rank_number k h = eqb-true (rank_of (kind_at k)) (if (leb 2 k && leb k 5) (k - 1
 pub parent_number : (k : ℕ) → k < 10 → parent k ≡ if (leb k 1) 0 (if (leb k 5) 1 (if (eqb k 7) 6 5))
 unfolding parent kind_at
 parent_number k h = eqb-true (parent k) (if (leb k 1) 0 (if (leb k 5) 1 (if (eqb k 7) 6 5))) (below_at 10 (λ n. eqb (parent n) (if (leb n 1) 0 (if (leb n 5) 1 (if (eqb n 7) 6 5)))) refl k h)
+
+-- where an element has no fault of its own, the least so far stays
+pub best_none : (b : Option Refusal) (i : ℕ) → lower (fault_of b) (given 9 i) ≡ fault_of b
+best_none None i = rw (le-ltb i 0 (omega arith))
+best_none (Some f) i = at f.cause
+  where
+    at : (c : Cause) → lower (given (cause_number c) f.place) (given 9 i) ≡ given (cause_number c) f.place
+    at Size = refl
+    at Byte = refl
+    at Malformed = refl
+    at OutOfPlace = refl
+    at Edition = refl
+    at Value = refl
+    at Incomplete = refl
+
+-- the state behind a start tag, part by part
+pub opened_by : (s : St) (k i : ℕ) (l : List Attr) (n : ℕ) (needs : Bool) (rank ws from root : ℕ) (p a : Bool) (f : Fault) → k < 10
+    → n ≡ flaw (kind_at k) (names l) (slots_of (fields_of (kind_at k)) l) → needs ≡ needs_w (kind_at k) (slots_of (fields_of (kind_at k)) l)
+    → rank ≡ if (eqb (rank_of (kind_at k)) 0) s.rank (rank_of (kind_at k)) → p ≡ (eqb k 2 || s.has_p) → a ≡ (eqb k 3 || s.has_a)
+    → ws ≡ if (eqb k 6) 0 (if (eqb k 7) (suc s.ws) s.ws) → from ≡ if (eqb k 6) i s.from → root ≡ if (eqb k 1) i s.root → f ≡ lower s.best (given n i)
+    → record { cur = k; rank = rank; has_p = p; has_a = a; ws = ws; waits = needs; from = from; root = root; best = f } ≡ opened s (kind_at k) i l
+unfolding opened
+opened_by s k i l n needs rank ws from root p a f h x y r P A w m o b = rw (code_back k h, ← x, ← y, r, P, A, w, m, o, b)

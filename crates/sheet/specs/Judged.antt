@@ -1,18 +1,22 @@
--- Judged: what the code's state stands for in the one pass, and what its answer tells of a page. By the theorems of proofs/JudgeLaws the answer is
--- document 01's. `verdict_of` is the interface; the other definitions serve the code.
+-- Judged: what the code's state and its refusals stand for in the one pass, and when a page has no fault. By the theorems of proofs/JudgeLaws the answer
+-- is document 01's. `is_fine` is the interface; the other definitions serve the code.
 -- Assumes nothing.
-use Rattle.std.specs.Prelude.{Bool, ◌≤◌, ◌<◌, eqb}
+use Rattle.std.specs.Prelude.{Option, None, Some, Bool, true, false, ◌≤◌, ◌<◌}
 use Rattle.paper.specs.Lists.{if}
+use Rattle.paper.specs.Causes.{cause_number}
 use Rattle.paper.specs.Judging.{Fault, Judged, refused, sheet}
-use Rattle.sheet.specs.Fold.{St, given, closed}
+use Rattle.sheet.specs.Fold.{St, given, spotless, closed}
 use Rattle.sheet.specs.declared.state.Refusal.{Refusal}
 use Rattle.sheet.specs.declared.state.State.{State}
-use Rattle.sheet.specs.declared.judge.Verdict.{Verdict}
-use Rattle.sheet.specs.declared.judge.Verdict.TheVariants.{Refused, Fine}
 
 -- a refusal as a fault
-abbrev pub fault_of : Refusal → Fault
-fault_of f = given f.number f.place
+abbrev pub fault_at : Refusal → Fault
+fault_at f = given (cause_number f.cause) f.place
+
+-- the same where there may be none
+abbrev pub fault_of : Option Refusal → Fault
+fault_of None = spotless
+fault_of (Some f) = fault_at f
 
 -- the code's state as the pass's
 abbrev pub st_of : State → St
@@ -37,11 +41,7 @@ pub record Sound (s : State) : Type 0 where
   pub known : s.cur < 10
   pub few : s.ws ≤ 3
 
--- the answer for a least fault: number 9 is none
-abbrev pub verdict_by : Fault → Verdict
-verdict_by f = if (eqb f.no 9) Fine (Refused f.no f.place)
-
--- the answer for a page, as paper judges it; what a page without faults says is not told
-abbrev pub verdict_of : Judged → Verdict
-verdict_of (refused n i) = Refused n i
-verdict_of (sheet s) = Fine
+-- a page has no fault
+abbrev pub is_fine : Judged → Bool
+is_fine (refused n i) = false
+is_fine (sheet s) = true

@@ -1,5 +1,5 @@
 // The attributes of one start tag, by the fields of its element.
-ghost use Rattle.std.specs.Prelude.{◌≡◌, false, ◌*◌, ◌≤◌, ◌<◌, length};
+ghost use Rattle.std.specs.Prelude.{◌≡◌, true, false, ◌*◌, ◌≤◌, ◌<◌, length, MatchOption};
 ghost use Rattle.paper.specs.Judging.{names};
 ghost use Rattle.paper.specs.Sizes.{page_bytes};
 ghost use Rattle.markup.specs.Walk.{inside_at};
@@ -13,33 +13,27 @@ use fields::places::FIELDS;
 use markup::walk::{Piece, next_attr};
 use room::clear;
 
-// What stands in a start tag: whether an attribute is unknown or stands twice, and else whether the tag closes itself.
-#[derive(Clone, Copy)]
-pub struct Found {
-    pub strange: bool,
-    pub shut: bool,
-}
-
-// Reads the attributes of a start tag of an element of that kind from `at` on, up to the tag's end or to the first attribute that is unknown or
-// stands twice. The raw values, the bytes between the quotes, are told in `raws`, two numbers to a field in the table's order: where it starts in
+// Reads the attributes of a start tag of an element of that kind from `at` on, up to the tag's end, and tells whether the tag closes itself: none where an
+// attribute is unknown or stands twice. The raw values, the bytes between the quotes, are told in `raws`, two numbers to a field in the table's order: where it starts in
 // the page and where it ends. No value starts at 0: there are 0 and 0 where the attribute is not there.
-pub fn find(page: &[u8], at: usize, kind: u8, keys: &[u64; FIELDS], raws: &mut [u16]) -> Found
+pub fn find(
+    page: &[u8],
+    at: usize,
+    kind: u8,
+    keys: &[u64; FIELDS],
+    raws: &mut [u16],
+) -> Option<bool>
     requires { (at ≤ length page.now) × (length page.now ≤ page_bytes) × (kind < kind_count) × (keys.now ≡ key_column) × (2 * count_of (kind_at kind) ≤ length raws.old) }
-    ensures { (result.strange ≡ strange (kind_at kind) (names (inside_at page.now at).attrs))
-        × (result.strange ≡ false → (result.shut ≡ (inside_at page.now at).shut) × Tells page.now (kind_at kind) raws.new (inside_at page.now at).attrs) }
+    ensures { MatchOption result (strange (kind_at kind) (names (inside_at page.now at).attrs) ≡ true)
+        (λ shut. (strange (kind_at kind) (names (inside_at page.now at).attrs) ≡ false) × (shut ≡ (inside_at page.now at).shut)
+        × Tells page.now (kind_at kind) raws.new (inside_at page.now at).attrs) }
 {
     let count = count_of(kind);
     clear(raws, 0, 2 * count);
     let mut i = at;
     loop {
-        let piece = next_attr(page, i);
-        match piece {
-            Piece::Stop { shut } => {
-                return Found {
-                    strange: false,
-                    shut: shut,
-                };
-            }
+        match next_attr(page, i) {
+            Piece::Stop { shut } => return Some(shut),
             Piece::Attribute {
                 name_at,
                 name_end,
@@ -48,17 +42,11 @@ pub fn find(page: &[u8], at: usize, kind: u8, keys: &[u64; FIELDS], raws: &mut [
             } => {
                 let j = field_in(keys, kind, &page[name_at..name_end]);
                 if j >= count {
-                    return Found {
-                        strange: true,
-                        shut: false,
-                    };
+                    return None;
                 }
                 let s = 2 * j;
                 if raws[s] != 0 {
-                    return Found {
-                        strange: true,
-                        shut: false,
-                    };
+                    return None;
                 }
                 raws[s] = raw_at as u16;
                 raws[s + 1] = raw_end as u16;

@@ -1,10 +1,11 @@
-// A page judged: whether it is refused, with which number and where.
-ghost use Rattle.std.specs.Prelude.{◌≡◌, ◌≤◌, length};
-ghost use Rattle.paper.specs.Judging.{judge};
+// A page judged: whether it is refused, for which cause and where.
+ghost use Rattle.std.specs.Prelude.{◌≡◌, true, ◌≤◌, length, MatchResult};
+ghost use Rattle.paper.specs.Causes.{cause_number};
+ghost use Rattle.paper.specs.Judging.{refused, judge};
 ghost use Rattle.paper.specs.Sizes.{page_bytes};
 ghost use Rattle.markup.specs.Walk.{tags_at};
 ghost use Rattle.sheet.specs.Fold.{fold_page};
-ghost use Rattle.sheet.specs.Judged.{fault_of, verdict_by, verdict_of};
+ghost use Rattle.sheet.specs.Judged.{fault_at, is_fine};
 
 use crate::flaws::{flaw_of, needs_w};
 use crate::found::find;
@@ -12,37 +13,16 @@ use crate::state::{Refusal, bars, before, close, enter, finish, kind_under};
 use fields::lookup::{keys, limits};
 use fields::table::RAWS;
 use marks::first_refused;
-use markup::scan::{Extent, scan};
+use markup::scan::scan;
 use markup::walk::{Mark, next_tag};
+use paper::Cause;
 use plan::Plan;
 
-// The answer for a page.
-#[derive(Clone, Copy)]
-pub enum Verdict {
-    // The page is refused: with the lowest number of its faults, at the lowest place within it.
-    Refused { number: u8, place: u16 },
-    // The page has no fault.
-    Fine,
-}
-
-// The answer for a least refusal: number 9 is none.
-fn told(f: Refusal) -> Verdict
-    ensures { result ≡ verdict_by (fault_of f) }
-{
-    if f.number == 9 {
-        return Verdict::Fine;
-    }
-    Verdict::Refused {
-        number: f.number,
-        place: f.place,
-    }
-}
-
-// The answer for the tags of a page. The first element or attribute that has no place ends it: no refusal of tags is lower, and places go up.
-// `scratch` is room for one value; what it then holds is of no meaning.
-pub fn faults_of(page: &[u8], scratch: &mut [u8]) -> Verdict
+// The answer for the tags of a page: its least refusal, if there is one. The first element or attribute that has no place ends it: no refusal of tags is
+// lower, and places go up. `scratch` is room for one value; what it then holds is of no meaning.
+pub fn faults_of(page: &[u8], scratch: &mut [u8]) -> Result<(), Refusal>
     requires { (length page.now ≤ page_bytes) × (page_bytes ≤ length scratch.old) }
-    ensures { result ≡ verdict_by (fold_page (tags_at page.now 0)) }
+    ensures { MatchResult result (λ u. (fold_page (tags_at page.now 0)).no ≡ 9) (λ r. fold_page (tags_at page.now 0) ≡ fault_at r) }
 {
     let keys = keys();
     let limits = limits();
@@ -50,34 +30,32 @@ pub fn faults_of(page: &[u8], scratch: &mut [u8]) -> Verdict
     let mut st = before();
     let mut at = 0;
     loop {
-        let mark = next_tag(page, at);
-        match mark {
-            Mark::Nothing => {
-                return told(finish(st));
+        match next_tag(page, at) {
+            None => {
+                return match finish(st) {
+                    Some(refusal) => Err(refusal),
+                    None => Ok(()),
+                };
             }
-            Mark::End { at: i } => {
+            Some(Mark::End { at: i }) => {
                 st = close(st);
                 at = i + 1;
             }
-            Mark::Start { at: i, name_end } => {
-                let place = i as u16;
+            Some(Mark::Start { at: i, name_end }) => {
+                let out = Refusal {
+                    cause: Cause::OutOfPlace,
+                    place: i as u16,
+                };
                 let kind = kind_under(st.cur, &page[i + 1..name_end]);
                 if bars(st, kind) {
-                    return Verdict::Refused {
-                        number: 5,
-                        place: place,
-                    };
+                    return Err(out);
                 }
-                let found = find(page, name_end, kind, &keys, &mut raws);
-                if found.strange {
-                    return Verdict::Refused {
-                        number: 5,
-                        place: place,
-                    };
-                }
-                let number = flaw_of(page, kind, &raws, &limits, scratch);
+                let Some(shut) = find(page, name_end, kind, &keys, &mut raws) else {
+                    return Err(out);
+                };
+                let cause = flaw_of(page, kind, &raws, &limits, scratch);
                 let needs = needs_w(page, kind, &raws, scratch);
-                st = enter(st, kind, place, number, needs, found.shut);
+                st = enter(st, kind, out.place, cause, needs, shut);
                 at = i + 1;
             }
         }
@@ -86,42 +64,29 @@ pub fn faults_of(page: &[u8], scratch: &mut [u8]) -> Verdict
 
 // The answer for any bytes: empty or above 1,400 (2), a byte that is not allowed (3), malformed (4), else the least fault of its tags.
 // `scratch` is room for one value; what it then holds is of no meaning.
-pub fn judge_page(page: &[u8], scratch: &mut [u8]) -> Verdict
+pub fn judge_page(page: &[u8], scratch: &mut [u8]) -> Result<(), Refusal>
     requires { page_bytes ≤ length scratch.old }
-    ensures { result ≡ verdict_of (judge page.now) }
+    ensures { MatchResult result (λ u. is_fine (judge page.now) ≡ true) (λ r. judge page.now ≡ refused (cause_number r.cause) r.place) }
 {
     let n = page.len();
-    if n == 0 {
-        return Verdict::Refused {
-            number: 2,
+    if n == 0 || n > Plan::PAGE {
+        return Err(Refusal {
+            cause: Cause::Size,
             place: 0,
-        };
-    }
-    if n > Plan::PAGE {
-        return Verdict::Refused {
-            number: 2,
-            place: 0,
-        };
+        });
     }
     let i = first_refused(page);
     if i < n {
-        let place = i as u16;
-        return Verdict::Refused {
-            number: 3,
-            place: place,
-        };
+        return Err(Refusal {
+            cause: Cause::Byte,
+            place: i as u16,
+        });
     }
-    let extent = scan(page);
-    match extent {
-        Extent::Good(good) => {
-            let place = good as u16;
-            return Verdict::Refused {
-                number: 4,
-                place: place,
-            };
-        }
-        Extent::Whole => {
-            return faults_of(page, scratch);
-        }
+    if let Err(good) = scan(page) {
+        return Err(Refusal {
+            cause: Cause::Malformed,
+            place: good as u16,
+        });
     }
+    faults_of(page, scratch)
 }

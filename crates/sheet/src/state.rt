@@ -1,31 +1,30 @@
 // The state of judging a page: what is known of it behind some of its tags, in a few numbers.
 ghost use Rattle.std.specs.Prelude.{◌≡◌, false, ◌||◌, List, suc, ◌≤◌, ◌<◌, eqb};
 ghost use Rattle.paper.specs.Lists.{if};
+ghost use Rattle.paper.specs.Causes.{cause_number, flaw_number};
 ghost use Rattle.paper.specs.Fields.{code, rank_of, fields_of};
 ghost use Rattle.paper.specs.Grammar.{Attr};
 ghost use Rattle.paper.specs.Judging.{names, slots_of, lower};
 ghost use Rattle.fields.specs.Places.{kind_at, kind_count};
-ghost use Rattle.sheet.specs.Fold.{outside, kind_under, parent, barred, flaw, needs_w, opened, closed, finished};
+ghost use Rattle.sheet.specs.Fold.{outside, kind_under, parent, barred, given, flaw, needs_w, opened, closed, finished};
 ghost use Rattle.sheet.specs.Judged.{fault_of, st_of, Sound, left};
 
 use fields::lookup::child;
 use fields::places::{A, M, MP, O, P, S, W};
+use paper::Cause;
 
 // Outside of all elements, as the table of fields counts.
 const OUTERMOST: u8 = 10;
 
-// The number that stands for no refusal.
-const NONE: u8 = 9;
-
-// A refusal: its number and its place.
-#[derive(Clone, Copy)]
+// A refusal of a page: its cause and its place.
+#[derive(Clone, Copy, PartialEq, Eq)]
 pub struct Refusal {
-    pub number: u8,
+    pub cause: Cause,
     pub place: u16,
 }
 
 // What is known of a page behind some of its tags.
-#[derive(Clone, Copy)]
+#[derive(Clone, Copy, PartialEq, Eq)]
 pub struct State {
     // The innermost open element, 0 if none is open.
     pub cur: u8,
@@ -42,23 +41,18 @@ pub struct State {
     pub from: u16,
     pub root: u16,
     // The least refusal so far.
-    pub best: Refusal,
+    pub best: Option<Refusal>,
 }
 
-// The lower of two refusals: the lower number, and the lower place within one number.
-fn lower_of(f: Refusal, g: Refusal) -> Refusal
-    ensures { fault_of result ≡ lower (fault_of f) (fault_of g) }
+// The least refusal where one of that cause at that place joins those so far: the lowest number, and the lowest place within one number.
+fn least(best: Option<Refusal>, cause: Cause, place: u16) -> Option<Refusal>
+    ensures { fault_of result ≡ lower (fault_of best) (given (cause_number cause) place) }
 {
-    if g.number < f.number {
-        return g;
+    match best {
+        Some(f) if f.cause.number() < cause.number() || (f.cause == cause && f.place <= place) =>
+            best,
+        _ => Some(Refusal { cause, place }),
     }
-    if g.number > f.number {
-        return f;
-    }
-    if g.place < f.place {
-        return g;
-    }
-    f
 }
 
 // The state before the first tag.
@@ -74,59 +68,45 @@ pub fn before() -> State
         waits: false,
         from: 0,
         root: 0,
-        best: Refusal {
-            number: NONE,
-            place: 0,
-        },
+        best: None,
     }
 }
 
 // The element of a name where `cur` is the innermost open one, 0 if it may not stand there.
+#[tactic(auto, using(crate::proofs::StateLaws::kids_under, crate::proofs::StateLaws::kids_outside))]
 pub fn kind_under(cur: u8, name: &[u8]) -> u8
     requires { cur < 10 }
     ensures { (result ≡ code (kind_under cur name.now)) × (result < 10) }
 {
-    if cur == 0 {
-        return child(OUTERMOST, name);
-    }
-    child(cur, name)
+    child(if cur == 0 { OUTERMOST } else { cur }, name)
 }
 
 // Whether an element is unknown, misplaced or one too many.
+#[tactic(auto, using(crate::proofs::StateLaws::barred_number))]
 pub fn bars(st: State, kind: u8) -> bool
     requires { kind < kind_count }
     ensures { result ≡ barred (st_of st) (kind_at kind) }
 {
-    if kind == 0 {
-        return true;
+    match kind {
+        0 => true,
+        P => st.rank >= 1,
+        A => st.rank >= 2,
+        O => st.rank >= 3,
+        W => st.ws >= 3,
+        _ => false,
     }
-    if kind == P {
-        return st.rank >= 1;
-    }
-    if kind == A {
-        return st.rank >= 2;
-    }
-    if kind == O {
-        return st.rank >= 3;
-    }
-    if kind == W {
-        return st.ws >= 3;
-    }
-    false
 }
 
 // The latest element in MP behind the start tag of an element.
+#[tactic(auto, using(crate::proofs::StateLaws::rank_number))]
 fn rank_with(rank: u8, kind: u8) -> u8
     requires { kind < kind_count }
     ensures { result ≡ if (eqb (rank_of (kind_at kind)) 0) rank (rank_of (kind_at kind)) }
 {
-    if kind < P {
-        return rank;
+    match kind {
+        P..=S => kind - 1,
+        _ => rank,
     }
-    if kind > S {
-        return rank;
-    }
-    kind - 1
 }
 
 // How many W the open M has behind the start tag of an element.
@@ -134,149 +114,100 @@ fn ws_with(ws: u8, kind: u8) -> u8
     requires { (ws ≤ 3) × (kind ≡ 7 → ws < 3) }
     ensures { (result ≡ if (eqb kind 6) 0 (if (eqb kind 7) (suc ws) ws)) × (result ≤ 3) }
 {
-    if kind == M {
-        return 0;
+    match kind {
+        M => 0,
+        W => ws + 1,
+        _ => ws,
     }
-    if kind == W {
-        return ws + 1;
-    }
-    ws
 }
 
-// Whether an element is of that kind, or one came before.
-fn came(kind: u8, wanted: u8, before: bool) -> bool
-    ensures { result ≡ (eqb kind wanted || before) }
-{
-    if kind == wanted {
-        return true;
-    }
-    before
-}
-
-// The place of an element if it is of that kind, or that of one before.
-fn place_with(kind: u8, wanted: u8, place: u16, before: u16) -> u16
-    ensures { result ≡ if (eqb kind wanted) place before }
-{
-    if kind == wanted {
-        return place;
-    }
-    before
-}
-
-// The state behind the start tag of an element that may stand there, whose own values give the refusal `number`, 9 if none, and which needs a W or not.
-fn open(st: State, kind: u8, place: u16, number: u8, needs: bool) -> State
+// The state behind the start tag of an element that may stand there, with the refusal that its own values give, if any, and whether it needs a W.
+#[tactic(auto, using(crate::proofs::StateLaws::fourth, crate::proofs::StateLaws::best_none, fields::proofs::TableLaws::code_back), unfolding(crate::specs::Fold::opened))]
+fn open(st: State, kind: u8, place: u16, cause: Option<Cause>, needs: bool) -> State
     requires { (kind < kind_count) × Sound st × (barred (st_of st) (kind_at kind) ≡ false) }
-    ensures { ((l : List Attr) → number ≡ flaw (kind_at kind) (names l) (slots_of (fields_of (kind_at kind)) l)
+    ensures { ((l : List Attr) → flaw_number cause ≡ flaw (kind_at kind) (names l) (slots_of (fields_of (kind_at kind)) l)
         → needs ≡ needs_w (kind_at kind) (slots_of (fields_of (kind_at kind)) l) → st_of result ≡ opened (st_of st) (kind_at kind) place l) × Sound result }
 {
-    let rank = rank_with(st.rank, kind);
-    let person = came(kind, P, st.person);
-    let author = came(kind, A, st.author);
-    let ws = ws_with(st.ws, kind);
-    let from = place_with(kind, M, place, st.from);
-    let root = place_with(kind, MP, place, st.root);
-    let best = lower_of(
-        st.best,
-        Refusal {
-            number: number,
-            place: place,
-        },
-    );
+    let best = match cause {
+        Some(cause) => least(st.best, cause, place),
+        None => st.best,
+    };
     State {
         cur: kind,
-        rank: rank,
-        person: person,
-        author: author,
-        ws: ws,
+        rank: rank_with(st.rank, kind),
+        person: kind == P || st.person,
+        author: kind == A || st.author,
+        ws: ws_with(st.ws, kind),
         waits: needs,
-        from: from,
-        root: root,
-        best: best,
+        from: if kind == M { place } else { st.from },
+        root: if kind == MP { place } else { st.root },
+        best,
     }
 }
 
 // The element around an element.
+#[tactic(auto, using(crate::proofs::StateLaws::parent_number))]
 fn parent_of(kind: u8) -> u8
     requires { kind < kind_count }
     ensures { (result ≡ parent kind) × (result < 10) }
 {
-    if kind <= MP {
-        return 0;
+    match kind {
+        0..=MP => 0,
+        P..=S => MP,
+        W => M,
+        _ => S,
     }
-    if kind <= S {
-        return MP;
-    }
-    if kind == W {
-        return M;
-    }
-    S
 }
 
 // The least refusal behind an end tag: an M that still waits for a W is refused with 8.
-fn best_behind(st: State) -> Refusal
+#[tactic(auto, unfolding(crate::specs::Fold::closed))]
+fn best_behind(st: State) -> Option<Refusal>
     ensures { fault_of result ≡ (closed (st_of st)).best }
 {
     if st.waits {
-        return lower_of(
-            st.best,
-            Refusal {
-                number: 8,
-                place: st.from,
-            },
-        );
+        return least(st.best, Cause::Incomplete, st.from);
     }
     st.best
 }
 
 // The state behind an end tag.
+#[tactic(auto, unfolding(crate::specs::Fold::closed))]
 pub fn close(st: State) -> State
     requires { Sound st }
     ensures { (st_of result ≡ closed (st_of st)) × Sound result }
 {
-    let cur = parent_of(st.cur);
-    let best = best_behind(st);
     State {
-        cur: cur,
-        rank: st.rank,
-        person: st.person,
-        author: st.author,
-        ws: st.ws,
+        cur: parent_of(st.cur),
         waits: false,
-        from: st.from,
-        root: st.root,
-        best: best,
+        best: best_behind(st),
+        ..st
     }
 }
 
 // The state behind a start tag, and behind the element's end if the tag closes itself.
-pub fn enter(st: State, kind: u8, place: u16, number: u8, needs: bool, shut: bool) -> State
+pub fn enter(
+    st: State,
+    kind: u8,
+    place: u16,
+    cause: Option<Cause>,
+    needs: bool,
+    shut: bool,
+) -> State
     requires { (kind < kind_count) × Sound st × (barred (st_of st) (kind_at kind) ≡ false) }
-    ensures { ((l : List Attr) → number ≡ flaw (kind_at kind) (names l) (slots_of (fields_of (kind_at kind)) l)
+    ensures { ((l : List Attr) → flaw_number cause ≡ flaw (kind_at kind) (names l) (slots_of (fields_of (kind_at kind)) l)
         → needs ≡ needs_w (kind_at kind) (slots_of (fields_of (kind_at kind)) l) → st_of result ≡ left shut (opened (st_of st) (kind_at kind) place l)) × Sound result }
 {
-    let inner = open(st, kind, place, number, needs);
-    if shut {
-        return close(inner);
-    }
-    inner
+    let inner = open(st, kind, place, cause, needs);
+    if shut { close(inner) } else { inner }
 }
 
-// The least refusal of the page, at its end: 8 at MP if P or A is missing. Number 9 is none.
-pub fn finish(st: State) -> Refusal
+// The least refusal of the page, at its end, if there is one: 8 at MP if P or A is missing.
+#[tactic(auto, unfolding(crate::specs::Fold::finished))]
+pub fn finish(st: State) -> Option<Refusal>
     ensures { fault_of result ≡ finished (st_of st) }
 {
-    let lacking = lower_of(
-        st.best,
-        Refusal {
-            number: 8,
-            place: st.root,
-        },
-    );
-    if st.person {
-        if st.author {
-            return st.best;
-        }
-        return lacking;
+    if st.person && st.author {
+        return st.best;
     }
-    lacking
+    least(st.best, Cause::Incomplete, st.root)
 }

@@ -36,7 +36,7 @@ module _ (t l : List ℕ) (first n j i : ℕ) (h : i < n) where
   abbrev here : Bool
   here = fine_span t (field_at (first + i)) (span_in l (j + i))
 
-  fields_more : fine_from t (first + i) (n - i) (j + i) l ≡ (here && fine_from t (first + (i + 1)) (n - (i + 1)) (j + (i + 1)) l)
+  pub fields_more : fine_from t (first + i) (n - i) (j + i) l ≡ (here && fine_from t (first + (i + 1)) (n - (i + 1)) (j + (i + 1)) l)
   unfolding fine_from
   fields_more =
       let e : n - i ≡ suc (n - (i + 1)) = omega arith in
@@ -44,49 +44,25 @@ module _ (t l : List ℕ) (first n j i : ℕ) (h : i < n) where
       let g : suc (j + i) ≡ j + (i + 1) = omega arith in
       ap (λ (m : ℕ). fine_from t (first + i) m (j + i) l) e ∙ rw (f, g)
 
-  -- it is not fine
-  pub fields_bad : (b : Bool) → b ≡ here → b ≡ false → fine_from t (first + i) (n - i) (j + i) l ≡ false
-  fields_bad b q e = fields_more ∙ rw (sym q ∙ e)
-
-  -- it is
-  pub fields_on : (b : Bool) → b ≡ here → b ≡ true → fine_from t (first + i) (n - i) (j + i) l ≡ fine_from t (first + (i + 1)) (n - (i + 1)) (j + (i + 1)) l
-  fields_on b q e = fields_more ∙ rw (sym q ∙ e)
-
 -- none is left
 pub fields_done : (t l : List ℕ) (first n j i : ℕ) → n ≤ i → fine_from t (first + i) (n - i) (j + i) l ≡ true
 unfolding fine_from
 fields_done t l first n j i h = let e : n - i ≡ 0 = omega arith in ap (λ (m : ℕ). fine_from t (first + i) m (j + i) l) e
 
--- nothing is judged yet
-pub fields_start : (t l : List ℕ) (first n j : ℕ) → fine_from t first n j l ≡ fine_from t (first + 0) (n - 0) (j + 0) l
-fields_start t l first n j = let e : first + 0 ≡ first = omega arith in let f : n - 0 ≡ n = omega arith in let g : j + 0 ≡ j = omega arith in rw (e, f, g)
-
 -- ---- absent spans in a loop
 
 module _ (l : List ℕ) (n j i : ℕ) (h : i < n) where
-  absent_more : absent_from (n - i) (j + i) l ≡ (eqb (get_or l (3 + 2 * (j + i)) 0) 0 && absent_from (n - (i + 1)) (j + (i + 1)) l)
+  pub absent_more : absent_from (n - i) (j + i) l ≡ (eqb (get_or l (3 + 2 * (j + i)) 0) 0 && absent_from (n - (i + 1)) (j + (i + 1)) l)
   unfolding absent_from spans_in
   absent_more =
       let e : n - i ≡ suc (n - (i + 1)) = omega arith in
       let g : suc (j + i) ≡ j + (i + 1) = omega arith in
       ap (λ (m : ℕ). every absent (spans_in m (j + i) l)) e ∙ rw g
 
-  -- one that is present
-  pub absent_not : (get_or l (3 + 2 * (j + i)) 0 ≡ 0 → ⊥) → absent_from (n - i) (j + i) l ≡ false
-  absent_not e = absent_more ∙ rw (ne_eqb (get_or l (3 + 2 * (j + i)) 0) 0 e)
-
-  -- one that is absent
-  pub absent_on : get_or l (3 + 2 * (j + i)) 0 ≡ 0 → absent_from (n - i) (j + i) l ≡ absent_from (n - (i + 1)) (j + (i + 1)) l
-  absent_on e = absent_more ∙ rw (eq-eqb (get_or l (3 + 2 * (j + i)) 0) 0 e)
-
 -- none is left
 pub absent_done : (l : List ℕ) (n j i : ℕ) → n ≤ i → absent_from (n - i) (j + i) l ≡ true
 unfolding absent_from spans_in
 absent_done l n j i h = let e : n - i ≡ 0 = omega arith in ap (λ (m : ℕ). every absent (spans_in m (j + i) l)) e
-
--- none is looked at yet
-pub absent_start : (l : List ℕ) (n j : ℕ) → absent_from n j l ≡ absent_from (n - 0) (j + 0) l
-absent_start l n j = let f : n - 0 ≡ n = omega arith in let g : j + 0 ≡ j = omega arith in rw (f, g)
 
 -- ---- the fields together
 
@@ -152,7 +128,7 @@ module _ (l : List ℕ) (k e c i a b : ℕ) (q : c ≡ length (excluded (kind_at
   unfolding others_of
   others_long = length-map (excluded (kind_at e)) (λ (p : Pair). place_in p.1 (fields_of (kind_at e)))
 
-  pairs_more : left i ≡ ((there l k a && there l k b) || left (i + 1))
+  pub pairs_more : left i ≡ ((there l k a && there l k b) || left (i + 1))
   pairs_more = pair_more l k (ones_of (kind_at e)) (others_of (kind_at e)) i (omega (arith, ones_long)) (omega (arith, others_long)) ∙ rw (p, r)
 
   -- the one is absent

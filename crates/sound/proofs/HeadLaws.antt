@@ -15,7 +15,7 @@ use Rattle.paper.specs.Judging.{missing}
 use Rattle.paper.specs.Layout.{Span, shown, shown_all}
 use Rattle.paper.specs.Writing.{decimal, good_slot, good_slots, good_element, sound_head}
 use Rattle.paper.proofs.Small.{both, below_at}
-use Rattle.fields.specs.Places.{kind_at, field_at, count_of}
+use Rattle.fields.specs.Places.{field_at}
 use Rattle.plan.specs.Numbers.{span_in, spans_in, paper_span, flat, absent, within, head_with, head_in_text, show_head}
 use Rattle.plan.specs.declared.Plan.{Plan}
 use Rattle.plan.proofs.Spans.{flat_long, part_shown}
@@ -118,11 +118,6 @@ head_at t l n =
     ∙ retold (leb n 99) (not (is_empty v)) (not (absent (span_in l 1))) m m' a ((b && gp) && ((c && ga) && (d && go)))
     (λ z. mp_is (decimal n) u v (let k = leb-true n 99 z in patch_good n (omega arith)))
     (λ z. ap not (shows t (span_in l 1) (second_within w l z))))
-
--- how many fields P, A and O have
-pub head_counts : (count_of (kind_at 2) ≡ 8) × (count_of (kind_at 3) ≡ 10) × (count_of (kind_at 4) ≡ 7)
-unfolding kind_at count_of fields_of
-head_counts = (refl, refl, refl)
 
 -- a head is sound by its patch and its numbers
 pub head_is : (t : List ℕ) (p : Plan) (l : List ℕ) → length l ≡ 56 → l ≡ 0 ∷ 0 ∷ flat (map paper_span p.head) → head_sound t p ≡ (leb p.patch 99 && fine_head t l)

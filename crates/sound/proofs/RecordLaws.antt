@@ -195,39 +195,12 @@ module _ (t l : List ℕ) where
 -- ---- the W of a medication in a loop
 
 module _ (t l : List ℕ) (n i : ℕ) (h : i < n) where
-  ws_more : fine_ws t (n - i) (13 + 2 * i) l ≡ (fine_element t W (spans_in 2 (13 + 2 * i) l) && fine_ws t (n - (i + 1)) (13 + 2 * (i + 1)) l)
+  pub ws_more : fine_ws t (n - i) (13 + 2 * i) l ≡ (fine_element t W (spans_in 2 (13 + 2 * i) l) && fine_ws t (n - (i + 1)) (13 + 2 * (i + 1)) l)
   unfolding fine_ws
   ws_more =
       let e : n - i ≡ suc (n - (i + 1)) = omega arith in
       let f : 13 + 2 * i + 2 ≡ 13 + 2 * (i + 1) = omega arith in
       ap (λ (m : ℕ). fine_ws t m (13 + 2 * i) l) e ∙ rw f
-
-  -- the element W by its number
-  w_is : fine_element t (kind_at 7) (spans_in (count_of (kind_at 7)) (13 + 2 * i) l) ≡ fine_element t W (spans_in 2 (13 + 2 * i) l)
-  unfolding kind_at count_of fields_of
-  w_is = refl
-
-  -- one that is not fine
-  pub ws_bad : (b : Bool) → b ≡ fine_element t (kind_at 7) (spans_in (count_of (kind_at 7)) (13 + 2 * i) l) → b ≡ false → fine_ws t (n - i) (13 + 2 * i) l ≡ false
-  ws_bad b q e = ws_more ∙ rw (sym (q ∙ w_is) ∙ e)
-
-  -- one that is
-  pub ws_on : (b : Bool) → b ≡ fine_element t (kind_at 7) (spans_in (count_of (kind_at 7)) (13 + 2 * i) l) → b ≡ true → fine_ws t (n - i) (13 + 2 * i) l ≡ fine_ws t (n - (i + 1)) (13 + 2 * (i + 1)) l
-  ws_on b q e = ws_more ∙ rw (sym (q ∙ w_is) ∙ e)
-
--- none is left
-pub ws_done : (t l : List ℕ) (n i : ℕ) → n ≤ i → fine_ws t (n - i) (13 + 2 * i) l ≡ true
-unfolding fine_ws
-ws_done t l n i h = let e : n - i ≡ 0 = omega arith in ap (λ (m : ℕ). fine_ws t m (13 + 2 * i) l) e
-
--- none is judged yet
-pub ws_start : (t l : List ℕ) (n : ℕ) → fine_ws t n 13 l ≡ fine_ws t (n - 0) (13 + 2 * 0) l
-ws_start t l n = let e : n - 0 ≡ n = omega arith in rw e
-
--- a W has two fields
-pub w_count : count_of (kind_at 7) ≡ 2
-unfolding kind_at count_of fields_of
-w_count = refl
 
 -- ---- a medication
 
@@ -241,7 +214,7 @@ unfolding fields_of
 m_missing d vs = refl
 
 -- how many fields M has
-pub m_count : count_of (kind_at 6) ≡ 14
+m_count : count_of (kind_at 6) ≡ 14
 unfolding kind_at count_of fields_of
 m_count = refl
 
@@ -366,23 +339,14 @@ module _ (t l : List ℕ) where
   pub medication_is : kind_shown (get_or l 0 0) ≡ M → record_sound t l ≡ fine_medication t l
   medication_is e = by_kind_lem t l ∙ ap (by_kind t l) e ∙ by_parts
 
--- how many fields S, R and X have
-pub row_counts : (count_of (kind_at 5) ≡ 2) × (count_of (kind_at 8) ≡ 2) × (count_of (kind_at 9) ≡ 1)
-unfolding kind_at count_of fields_of
-row_counts = (refl, refl, refl)
-
 -- ---- the rows in a loop
 
 -- the part of the rows that is record i
 pub part_sound : (t rows : List ℕ) (i : ℕ) → record_sound t (take (i * 48 + 48 - i * 48) (drop (i * 48) rows)) ≡ record_sound t (record_at rows i)
 part_sound t rows i = let e : i * 48 + 48 - i * 48 ≡ 48 = omega arith in ap (λ (n : ℕ). record_sound t (take n (drop (i * 48) rows))) e
 
--- no row is judged yet
-pub rows_start : (t rows : List ℕ) (n : ℕ) → first_bad_in 1 t n rows ≡ first_bad_in (1 + 0) t (n - 0) (drop (0 * 48) rows)
-rows_start t rows n = let e : n - 0 ≡ n = omega arith in rw e
-
 module _ (t rows : List ℕ) (n i : ℕ) (h : i < n) where
-  rows_more : first_bad_in (1 + i) t (n - i) (drop (i * 48) rows)
+  pub rows_more : first_bad_in (1 + i) t (n - i) (drop (i * 48) rows)
       ≡ if (record_sound t (record_at rows i)) (first_bad_in (1 + (i + 1)) t (n - (i + 1)) (drop ((i + 1) * 48) rows)) (i + 1)
   rows_more =
       let e : n - i ≡ suc (n - (i + 1)) = omega arith in
@@ -391,16 +355,3 @@ module _ (t rows : List ℕ) (n i : ℕ) (h : i < n) where
       let k : 1 + i ≡ i + 1 = omega arith in
       ap (λ (m : ℕ). first_bad_in (1 + i) t m (drop (i * 48) rows)) e
       ∙ rw (drop-drop 48 (i * 48) rows, f, g, k)
-
-  -- a row that is bad
-  pub bad_here : (b : Bool) → b ≡ record_sound t (record_at rows i) → b ≡ false → first_bad_in (1 + i) t (n - i) (drop (i * 48) rows) ≡ i + 1
-  bad_here b q e = rows_more ∙ rw (sym q ∙ e)
-
-  -- a row that is sound
-  pub sound_here : (b : Bool) → b ≡ record_sound t (record_at rows i) → b ≡ true
-      → first_bad_in (1 + i) t (n - i) (drop (i * 48) rows) ≡ first_bad_in (1 + (i + 1)) t (n - (i + 1)) (drop ((i + 1) * 48) rows)
-  sound_here b q e = rows_more ∙ rw (sym q ∙ e)
-
--- no row is left
-pub rows_done : (t rows : List ℕ) (n i : ℕ) → n ≤ i → first_bad_in (1 + i) t (n - i) (drop (i * 48) rows) ≡ 0
-rows_done t rows n i h = let e : n - i ≡ 0 = omega arith in rw e

@@ -9,13 +9,16 @@ use lib.Dec.{eqb, ltb}
 use lib.ListN.{length, take, drop, get_or}
 use lib.Seq.{slice, take_at}
 use borrow.Author.Tests.{eq-eqb, ne_eqb, le-leb, lt-leb}
+use Rattle.std.specs.Prelude.{Option, None, Some, is_some}
+use Rattle.paper.specs.declared.Cause.{Cause}
+use Rattle.paper.specs.declared.Cause.TheVariants.{Size, Byte, Malformed, OutOfPlace, Edition, Value, Incomplete}
+use Rattle.paper.specs.Causes.{cause_number, flaw_number}
 use Rattle.paper.specs.Lists.{if, same, is_empty}
 use Rattle.paper.specs.Fields.{Field, fields_of}
 use Rattle.paper.specs.Values.{keep, cut}
 use Rattle.paper.specs.Rules.{keeps, is_zero}
 use Rattle.paper.specs.Layout.{Span}
 use Rattle.paper.specs.Writing.{digits_of, decimal, good_slot}
-use Rattle.paper.proofs.Small.{no}
 use Rattle.paper.proofs.Rooms.{digits_most}
 use Rattle.fields.specs.Places.{field_at, field_flaw}
 use Rattle.room.proofs.Parts.{part_is, part_some}
@@ -51,16 +54,6 @@ last_blank (c ∷ s) h =
     let e : suc (length s) - 1 ≡ length s = omega arith in
     ap (λ (n : ℕ). eqb (get_or (c ∷ s) n 0) 32) e ∙ sym (ap not (uncut c s) ∙ not_twice (eqb (get_or (c ∷ s) (length s) 0) 32))
 
--- a value that ends with one is not as reading gives it
-pub blank_last : (a b : Bool) → not a ≡ true → false ≡ a && b
-blank_last true b e = no (sym e)
-blank_last false b e = refl
-
--- any other is, if nothing else stands against it
-pub unblank : (a b : Bool) → not a ≡ false → b ≡ a && b
-unblank true b e = refl
-unblank false b e = no e
-
 -- ---- a good value
 
 -- what is wrong with a value by its field decides, where it is absent
@@ -83,6 +76,23 @@ value_present f v e = rw e (go (keeps f v) f.must (same (cut v) v && not (is_zer
     go true false true = refl
     go true false false = refl
     go false m r = refl
+
+-- nothing is wrong with a value exactly when no cause is told
+pub told_none : (o : Option Cause) (b : Bool) {n : ℕ} → flaw_number o ≡ n → is_some o ≡ not b → eqb n 9 ≡ b
+told_none o b e f = ap (λ (n : ℕ). eqb n 9) (sym e) ∙ go o ∙ ap not f ∙ not_twice b
+  where
+    told : (c : Cause) → eqb (cause_number c) 9 ≡ false
+    told Size = refl
+    told Byte = refl
+    told Malformed = refl
+    told OutOfPlace = refl
+    told Edition = refl
+    told Value = refl
+    told Incomplete = refl
+
+    go : (o : Option Cause) → eqb (flaw_number o) 9 ≡ not (is_some o)
+    go None = refl
+    go (Some c) = told c
 
 -- a value with which something is wrong is not good
 pub flawed : (f : Field) (v : List ℕ) → eqb (field_flaw f v) 9 ≡ false → false ≡ good_value f v

@@ -16,10 +16,8 @@ use fields::places::{FIELDS, M_P};
 use fields::rules::value_flaw;
 use room::wide;
 
-// What `value_flaw` answers where nothing is wrong.
-const NO_FLAW: u8 = 9;
-
 // Whether a value ends with a space, which reading would cut.
+#[tactic(auto, using(crate::proofs::ValueLaws::last_blank))]
 fn ends_blank(v: &[u8]) -> bool
     requires { 0 < length v.now }
     ensures { result ≡ not (same (cut v.now) v.now) }
@@ -32,10 +30,7 @@ fn is_as_read(v: &[u8], rule: u8) -> bool
     requires { 0 < length v.now }
     ensures { result ≡ (same (cut v.now) v.now && not (is_zero (rule_at rule) v.now)) }
 {
-    if ends_blank(v) {
-        return false;
-    }
-    !is_zero(rule, v)
+    !ends_blank(v) && !is_zero(rule, v)
 }
 
 // Whether the value from `from` up to `to` is good for the field at a place of the table, and is there if the field must be present.
@@ -43,13 +38,8 @@ fn good_value(text: &[u8], from: usize, to: usize, id: usize, limits: &[u64; FIE
     requires { (from ≤ to) × (to ≤ length text.now) × (id < field_count) × (limits.now ≡ limit_column) }
     ensures { result ≡ good_value (field_at id) (slice from to text.now) }
 {
-    if value_flaw(limits, id, text, from, to) != NO_FLAW {
-        return false;
-    }
-    if from == to {
-        return true;
-    }
-    is_as_read(&text[from..to], rule_in(limits, id))
+    value_flaw(limits, id, text, from, to).is_none()
+        && (from == to || is_as_read(&text[from..to], rule_in(limits, id)))
 }
 
 // Whether a span lies within the text and shows a good value of the field at a place of the table; an absent one, whether the field may be absent.
@@ -62,10 +52,7 @@ pub fn fine_value(text: &[u8], at: u32, len: u32, id: usize, limits: &[u64; FIEL
     }
     let from = wide(at);
     let to = from + wide(len);
-    if to > text.len() {
-        return false;
-    }
-    good_value(text, from, to, id, limits)
+    to <= text.len() && good_value(text, from, to, id, limits)
 }
 
 // Whether a package number is none, or one whose digits keep their field.

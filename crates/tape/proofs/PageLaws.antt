@@ -7,19 +7,19 @@ use Prim.Native.Nat.{ℕ, ◌+◌, ◌*◌, ◌≤◌, ◌<◌}
 use native.Mathlib.Omega.{arith}
 use lib.ListN.{length}
 use lib.Seq.{slice}
+use Rattle.std.specs.Prelude.{Option, None, Some, MatchOption}
 use Rattle.paper.specs.Lists.{concat}
 use Rattle.paper.specs.Grammar.{Tag, start, end, placed}
 use Rattle.paper.specs.Fields.{code, fields_of}
 use Rattle.paper.specs.Judging.{names, slots_of, Sheet, Judged, refused, sheet, judge}
-use Rattle.paper.proofs.Small.{unequal}
+use Rattle.paper.proofs.Small.{no}
 use Rattle.paper.proofs.Told.{Root, page_placed}
 use Rattle.paper.proofs.ReadSound.{judges}
 use Rattle.markup.specs.Walk.{Inside, inside_at, tags_at, opened, ended}
 use Rattle.fields.specs.Places.{kind_at, count_of}
 use Rattle.fields.proofs.TableLaws.{kind_back}
-use Rattle.sheet.specs.declared.judge.Verdict.TheVariants.{Fine}
 use Rattle.sheet.specs.Fold.{strange}
-use Rattle.sheet.specs.Judged.{verdict_of}
+use Rattle.sheet.specs.Judged.{is_fine}
 use Rattle.sheet.specs.Found.{Lie, Tells, told}
 use Rattle.sheet.specs.Content.{kind_named, content_of}
 use Rattle.sheet.proofs.FoldContent.{content_is}
@@ -45,11 +45,11 @@ is_sheet_lem w s e =
     e ∙ ap sheet (sym (ap (λ (x : List Tag). sheet_by (starts_of x)) (page_tags w s e) ∙ sheet_by_lem ts ∙ c))
 
 -- so is a page that the judge of crate `sheet` finds fine
-pub fine_sheet : (w : List ℕ) → Fine ≡ verdict_of (judge w) → IsSheet w
+pub fine_sheet : (w : List ℕ) → is_fine (judge w) ≡ true → IsSheet w
 fine_sheet w e = at (judge w) refl e
   where
-    at : (j : Judged) → judge w ≡ j → Fine ≡ verdict_of j → IsSheet w
-    at (refused n i) q h = unequal cc
+    at : (j : Judged) → judge w ≡ j → is_fine j ≡ true → IsSheet w
+    at (refused n i) q h = no (sym h)
     at (sheet s) q h = is_sheet_lem w s q
 
 -- it has an element
@@ -122,6 +122,14 @@ module _ {w : List ℕ} {at p e : ℕ} (B : Starts w at p e) (K : Known (tags_at
   -- it has no attribute that is strange
   pub not_strange : strange (kind_at k) (names (inside_at w e).attrs) ≡ false
   not_strange = rw (← kind_is) opened_known.0
+
+  -- what was found in it is told
+  pub found_told : (r : Option Bool) (rs : List ℕ)
+      → MatchOption r (strange (kind_at k) (names (inside_at w e).attrs) ≡ true)
+      (λ b. (strange (kind_at k) (names (inside_at w e).attrs) ≡ false) × (b ≡ (inside_at w e).shut) × Tells w (kind_at k) rs (inside_at w e).attrs)
+      → Tells w (kind_at k) rs (inside_at w e).attrs
+  found_told None rs h = no (sym h ∙ not_strange)
+  found_told (Some b) rs h = h.2
 
   pub here : {rs : List ℕ} → Tells w (kind_at k) rs (inside_at w e).attrs → Here w at p e k rs
   here {rs} T = record {

@@ -18,7 +18,7 @@ use markup::walk::{Mark, next_tag};
 use sheet::found::find;
 
 // Where the next page begins on the tape, and how many bytes of the side room are then in use.
-#[derive(Clone, Copy)]
+#[derive(Clone, Copy, PartialEq, Eq)]
 pub struct Made {
     pub end: usize,
     pub used: usize,
@@ -46,8 +46,8 @@ fn lay_elem(
     tape[first] = kind as u16;
     tape[first + 1] = place as u16;
     tape[first + 2] = next as u16;
-    let m = lay_slots(page, kind, raws, tape, first + 3, side, used);
-    Made { end: next, used: m }
+    let used = lay_slots(page, kind, raws, tape, first + 3, side, used);
+    Made { end: next, used }
 }
 
 // Lays a page that is judged to a sheet onto the tape from `first` on, its values into the side room behind the `used` bytes. `keys` is
@@ -66,24 +66,16 @@ pub fn lay_page(
         × (result.end ≤ first + tape_room) × (result.used ≤ used + side_room) }
 {
     let mut raws = [0u16; RAWS];
-    let mut f = first;
-    let mut m = used;
+    let mut made = Made { end: first, used };
     let mut at = 0;
     loop {
-        let mark = next_tag(page, at);
-        match mark {
-            Mark::Nothing => {
-                return Made { end: f, used: m };
-            }
-            Mark::End { at: p } => {
-                at = p + 1;
-            }
-            Mark::Start { at: p, name_end } => {
+        match next_tag(page, at) {
+            None => return made,
+            Some(Mark::End { at: p }) => at = p + 1,
+            Some(Mark::Start { at: p, name_end }) => {
                 let kind = kind_named(page, p + 1, name_end);
-                let _found = find(page, name_end, kind, keys, &mut raws);
-                let made = lay_elem(page, kind, p, &raws, tape, f, side, m);
-                f = made.end;
-                m = made.used;
+                find(page, name_end, kind, keys, &mut raws);
+                made = lay_elem(page, kind, p, &raws, tape, made.end, side, made.used);
                 at = p + 1;
             }
         }

@@ -28,8 +28,7 @@ fn lay_value(page: &[u8], from: usize, to: usize, id: usize, room: &mut [u8], n:
 {
     let mut scratch = [0u8; Plan::PAGE];
     let k = decode(page, from, to, &mut scratch, 0);
-    let rule = rule_of(id);
-    if is_zero(rule, &scratch[..k]) {
+    if is_zero(rule_of(id), &scratch[..k]) {
         return n;
     }
     lay(room, n, &scratch[..k])
@@ -84,12 +83,10 @@ pub fn lay_slots(
     let first = first_of(kind);
     let count = count_of(kind);
     let mut m = used;
-    let mut j = 0;
-    while j < count {
+    for j in 0..count {
         let from = raws[2 * j];
         let to = raws[2 * j + 1];
         m = lay_slot(page, from, to, first + j, tape, at + 2 * j, side, m);
-        j += 1;
     }
     m
 }

@@ -11,6 +11,7 @@ use native.Mathlib.Omega.{arith}
 use lib.Dec.{leb}
 use lib.ListN.{length, take, drop, length-append}
 use lib.Seq.{length-take-le, take-append_seam}
+use Rattle.std.specs.Prelude.{Result, Ok}
 use Rattle.paper.specs.Lists.{if, is_empty}
 use Rattle.paper.specs.Plan as Said
 use Rattle.paper.specs.Plan.{Row}
@@ -27,17 +28,17 @@ use Rattle.paper.proofs.CellLaws.{Limit, limit_roomy, DoseCell, RowAt, row_one, 
 use Rattle.paper.proofs.CellRoom.{cell_fits}
 use Rattle.room.specs.Laid.{laid}
 use Rattle.cell.specs.Numbered.{field_of}
-use Rattle.cell.specs.Answers.{source_number}
 use Rattle.cell.specs.declared.answer.Source.TheVariants.{Plan, Catalogue, Neither}
-use Rattle.tollgilt.specs.Cells as Cells
-use Rattle.tollgilt.specs.Cells.{Promised, answered, source_of, answer_of, cell_from}
+use Rattle.tollgilt.specs.Cells.{Promised, answered, source_of, answer_of, cell_from, cell_with}
+use Rattle.tollgilt.specs.Refused.{numbers_of}
 use Rattle.tollgilt.specs.declared.cells.CellShown.{CellShown}
-use Rattle.tollgilt.proofs.ListLaws.{Numbered, call_numbered, call_plan}
+use Rattle.tollgilt.specs.declared.refused.Refused.{Refused}
+use Rattle.tollgilt.proofs.ListLaws.{call_plan}
 use Rattle.tollgilt.proofs.FindDemands.{roomy_plan}
 use Rattle.tollgilt.proofs.Unique.{cell_once}
 
 -- what a call of `cell_pages` gives: the room as lent, the pages handed in, the catalogue's text, the row, the field, which of three, the result, and the room as handed back
-abbrev pub Shows : List ℕ → List ℕ → List ℕ → List ℕ → List ℕ → ℕ → ℕ → ℕ → CellShown → List ℕ → Type 0
+abbrev pub Shows : List ℕ → List ℕ → List ℕ → List ℕ → List ℕ → ℕ → ℕ → ℕ → Result CellShown Refused → List ℕ → Type 0
 Shows out b ss ns k row n i r out' = Promised (answered out b ss ns k row n i) out r out'
 
 -- the text that it lays
@@ -52,7 +53,7 @@ pub record Printed (b ss ns k : List ℕ) (row n i : ℕ) (r : CellShown) (out' 
   pub is_field : field_of n i ≡ some field
   pub lies : r.length ≤ length out'
   pub is_cell : cell_in plan.rows row field k ≡ cell (text_shown r out') r.more r.omitted r.zero
-  pub source_is : r.source ≡ source_number (source_of (cell_in plan.rows row field []) (cell_in plan.rows row field k))
+  pub source_is : r.source ≡ source_of (cell_in plan.rows row field []) (cell_in plan.rows row field k)
 
 -- ---- document 01's cell with a limit, and the row's own value
 
@@ -85,12 +86,12 @@ module _ (rs : List Row) (j n : ℕ) (f : CellField) (l : Limit f n) (q : Row) (
 
   -- where it comes from
   source_whole : (k t : List ℕ) (d : Bool) (o : ℕ) (m : Bool) → cell_in rs j f k ≡ cell t d o m
-      → source_number (source_of (cell_in rs j f []) (cell_in rs j f k)) ≡ if (is_empty (own f q)) (if (is_empty k) 0 2) 1
+      → source_of (cell_in rs j f []) (cell_in rs j f k) ≡ if (is_empty (own f q)) (if (is_empty k) Neither Catalogue) Plan
   source_whole k t d o m e =
       let (t₀, d₀, o₀, m₀, e₀) = (is_cell rs j f []).1 ((is_cell rs j f k).0 (t, d, o, m, e)) in
       rw (e, e₀, part_empty n (own_or (own f q) []) t₀ d₀ o₀ (limit_roomy f n l) (part_whole [] t₀ d₀ o₀ m₀ e₀), part_empty n (own_or (own f q) k) t d o (limit_roomy f n l) (part_whole k t d o m e)) (by (own f q) k)
     where
-      by : (v k : List ℕ) → source_number (if (is_empty (own_or v [])) (if (is_empty (own_or v k)) Neither Catalogue) Plan) ≡ if (is_empty v) (if (is_empty k) 0 2) 1
+      by : (v k : List ℕ) → if (is_empty (own_or v [])) (if (is_empty (own_or v k)) Neither Catalogue) Plan ≡ if (is_empty v) (if (is_empty k) Neither Catalogue) Plan
       by [] [] = refl
       by [] (c ∷ k) = refl
       by (c ∷ v) k = refl
@@ -101,20 +102,17 @@ module _ (rs : List Row) (j n : ℕ) (f : CellField) (l : Limit f n) (q : Row) (
 laid_first : (r : CellShown) (t out out' : List ℕ) → r.length ≡ length t → out' ≡ laid out 0 t → text_shown r out' ≡ t
 laid_first r t out out' e q = rw (e, q) (take-append_seam t (drop (0 + length t) out))
 
-module _ (out b ss ns k : List ℕ) (row n i : ℕ) (r : CellShown) (out' : List ℕ) (F : Shows out b ss ns k row n i r out') (z : r.number ≡ 0) where
+module _ (out b ss ns k : List ℕ) (row n i : ℕ) (r : CellShown) (out' : List ℕ) (F : Shows out b ss ns k row n i (Ok r) out') where
   -- Where the call is not refused, what is told and laid is the documents' cell of the pages' plan.
   pub printed : Printed b ss ns k row n i r out'
   unfolding cell_call
-  printed = at (cell_call (length out) b ss ns) refl (call_numbered (leb cell_room (length out)) b ss ns) F
+  printed = at (cell_call (length out) b ss ns) refl F
     where
-      refused : (m j l : ℕ) → 1 ≤ m → r ≡ Cells.refused_with m j l → Printed b ss ns k row n i r out'
-      refused m j l h e = let q : r.number ≡ m = ap (λ (t : CellShown). t.number) e in absurd (omega arith)
-
       by : (p : Said.Plan) (f : CellField) (c : Cell) → read_at true b ss ns ≡ Paper.plan p → field_of n i ≡ some f → cell_in p.rows row f k ≡ c
-          → Promised (answer_of (source_of (cell_in p.rows row f []) c) c) out r out' → Printed b ss ns k row n i r out'
-      by p f no_cell e g q P = refused 1 0 0 (omega arith) P.result_is
+          → Promised (answer_of (source_of (cell_in p.rows row f []) c) c) out (Ok r) out' → Printed b ss ns k row n i r out'
+      by p f no_cell e g q P = unequal (cc (P.result_is))
       by p f (cell t d o m) e g q P =
-          let R = P.result_is in
+          let R : r ≡ cell_with (source_of (cell_in p.rows row f []) (cell t d o m)) (length t) d o m = cc (P.result_is) in
           let text : text_shown r out' ≡ t = laid_first r t out out' (ap (λ (x : CellShown). x.length) R) P.room_is in
           record {
             plan = p;
@@ -123,16 +121,16 @@ module _ (out b ss ns k : List ℕ) (row n i : ℕ) (r : CellShown) (out' : List
             is_field = g;
             lies = omega (arith, ap (λ (x : CellShown). x.length) R, ap length P.room_is, length-append t (drop (0 + length t) out));
             is_cell = q ∙ rw text (sym (ap (λ (x : CellShown). cell t x.more x.omitted x.zero) R));
-            source_is = ap (λ (x : CellShown). x.source) R ∙ ap (λ (c : Cell). source_number (source_of (cell_in p.rows row f []) c)) (sym q);
+            source_is = ap (λ (x : CellShown). x.source) R ∙ ap (λ (c : Cell). source_of (cell_in p.rows row f []) c) (sym q);
           }
 
-      of_field : (p : Said.Plan) (g : Option CellField) → read_at true b ss ns ≡ Paper.plan p → field_of n i ≡ g → Promised (cell_from (Paper.plan p) row g k) out r out' → Printed b ss ns k row n i r out'
-      of_field p none e q P = refused 1 0 0 (omega arith) P.result_is
+      of_field : (p : Said.Plan) (g : Option CellField) → read_at true b ss ns ≡ Paper.plan p → field_of n i ≡ g → Promised (cell_from (Paper.plan p) row g k) out (Ok r) out' → Printed b ss ns k row n i r out'
+      of_field p none e q P = unequal (cc (P.result_is))
       of_field p (some f) e q P = by p f (cell_in p.rows row f k) e q refl P
 
-      at : (a : Paper.Answer) → cell_call (length out) b ss ns ≡ a → Numbered a → Promised (cell_from a row (field_of n i) k) out r out' → Printed b ss ns k row n i r out'
-      at (Paper.refusal m j l) e g P = refused m j l g.0 P.result_is
-      at (Paper.plan p) e g P = of_field p (field_of n i) (roomy_plan (leb cell_room (length out)) b ss ns p e) refl P
+      at : (a : Paper.Answer) → cell_call (length out) b ss ns ≡ a → Promised (cell_from a row (field_of n i) k) out (Ok r) out' → Printed b ss ns k row n i r out'
+      at (Paper.refusal m j l) e P = unequal (cc (P.result_is))
+      at (Paper.plan p) e P = of_field p (field_of n i) (roomy_plan (leb cell_room (length out)) b ss ns p e) refl P
 
   -- its plan's rows, and its field
   abbrev rows_of : List Row
@@ -158,24 +156,24 @@ module _ (out b ss ns k : List ℕ) (row n i : ℕ) (r : CellShown) (out' : List
   nothing_lost m l q a = whole_again m (own_or (own f q) k) (text_shown r out') r.more r.omitted (part_whole rows_of row m f l q a k (text_shown r out') r.more r.omitted r.zero printed.is_cell)
 
   -- "The cell shows the plan's own text if there …, else the catalogue's …; with neither it is empty."
-  pub own_first : (m : ℕ) → Limit f m → (q : Row) → RowAt rows_of row q → r.source ≡ if (is_empty (own f q)) (if (is_empty k) 0 2) 1
+  pub own_first : (m : ℕ) → Limit f m → (q : Row) → RowAt rows_of row q → r.source ≡ if (is_empty (own f q)) (if (is_empty k) Neither Catalogue) Plan
   own_first m l q a = printed.source_is ∙ source_whole rows_of row m f l q a k (text_shown r out') r.more r.omitted r.zero printed.is_cell
 
   -- "A dose cell never uses the catalogue": its text is the plan's, and the same with any catalogue
-  pub dose_source : DoseCell f → r.source ≡ if (is_empty (text_shown r out')) 0 1
+  pub dose_source : DoseCell f → r.source ≡ if (is_empty (text_shown r out')) Neither Plan
   dose_source d =
       let same : cell_in rows_of row f [] ≡ cell_in rows_of row f k = no_catalogue rows_of row f [] k d in
       printed.source_is ∙ rw (same, printed.is_cell) (by (text_shown r out'))
     where
-      by : (t : List ℕ) → source_number (if (is_empty t) (if (is_empty t) Neither Catalogue) Plan) ≡ if (is_empty t) 0 1
+      by : (t : List ℕ) → if (is_empty t) (if (is_empty t) Neither Catalogue) Plan ≡ if (is_empty t) Neither Plan
       by [] = refl
       by (c ∷ t) = refl
 
   -- Nor does the order of scanning matter: the same pages in another order give the same cell.
-  pub any_order : (b₂ ss₂ ns₂ : List ℕ) (r₂ : CellShown) (out₂' : List ℕ) → Shows out b₂ ss₂ ns₂ k row n i r₂ out₂' → inside b₂ ss₂ ns₂ ≡ true → Perm (pages_at b ss ns) (pages_at b₂ ss₂ ns₂)
-      → (r ≡ r₂) × (out' ≡ out₂')
+  pub any_order : (b₂ ss₂ ns₂ : List ℕ) (r₂ : Result CellShown Refused) (out₂' : List ℕ) → Shows out b₂ ss₂ ns₂ k row n i r₂ out₂' → inside b₂ ss₂ ns₂ ≡ true → Perm (pages_at b ss ns) (pages_at b₂ ss₂ ns₂)
+      → (Ok r ≡ r₂) × (out' ≡ out₂')
   unfolding cell_call read_at
-  any_order b₂ ss₂ ns₂ r₂ out₂' G h m = cell_once (answered out b ss ns k row n i) out r r₂ out' out₂' F (subst (λ (a : Paper.Answer). Promised (cell_from a row (field_of n i) k) out r₂ out₂') (sym (same (leb cell_room (length out)))) G)
+  any_order b₂ ss₂ ns₂ r₂ out₂' G h m = cell_once (answered out b ss ns k row n i) out (Ok r) r₂ out' out₂' F (subst (λ (a : Paper.Answer). Promised (cell_from a row (field_of n i) k) out r₂ out₂') (sym (same (leb cell_room (length out)))) G)
     where
       there : read_at true b₂ ss₂ ns₂ ≡ Paper.plan printed.plan
       there = reads_pages b₂ ss₂ ns₂ h ∙ Orders.any_order (pages_at b ss ns) (pages_at b₂ ss₂ ns₂) printed.plan m (call_plan true b ss ns printed.plan printed.is_plan_lem)
@@ -185,21 +183,21 @@ module _ (out b ss ns k : List ℕ) (row n i : ℕ) (r : CellShown) (out' : List
       same false = refl
 
 -- Pages that are a plan are refused with 1 exactly where there is no such cell: the field does not exist, or the plan has no such row or none of three.
-pub refused_exactly : (out b ss ns k : List ℕ) (row n i : ℕ) (r : CellShown) (out' : List ℕ) → Shows out b ss ns k row n i r out' → (p : Said.Plan) → cell_call (length out) b ss ns ≡ Paper.plan p
-    → (r.number ≡ 1) ↔ ((field_of n i ≡ none) ⊎ ((f : CellField) × (field_of n i ≡ some f) × NoSuchCell p.rows row f))
+pub refused_exactly : (out b ss ns k : List ℕ) (row n i : ℕ) (r : Result CellShown Refused) (out' : List ℕ) → Shows out b ss ns k row n i r out' → (p : Said.Plan) → cell_call (length out) b ss ns ≡ Paper.plan p
+    → ((numbers_of r).number ≡ 1) ↔ ((field_of n i ≡ none) ⊎ ((f : CellField) × (field_of n i ≡ some f) × NoSuchCell p.rows row f))
 refused_exactly out b ss ns k row n i r out' F p e = at (field_of n i) refl (subst (λ (a : Paper.Answer). Promised (cell_from a row (field_of n i) k) out r out') e F)
   where
     Why : Type 0
     Why = (field_of n i ≡ none) ⊎ ((f : CellField) × (field_of n i ≡ some f) × NoSuchCell p.rows row f)
 
-    by : (f : CellField) (c : Cell) → field_of n i ≡ some f → cell_in p.rows row f k ≡ c → Promised (answer_of (source_of (cell_in p.rows row f []) c) c) out r out' → (r.number ≡ 1) ↔ Why
-    by f no_cell g q P = (λ u. inr (f, g, (no_cell_lem p.rows row f k).0 q), λ w. ap (λ (x : CellShown). x.number) P.result_is)
-    by f (cell t d o m) g q P = (λ u. let y : r.number ≡ 0 = ap (λ (x : CellShown). x.number) P.result_is in absurd (omega arith), λ w. clash w)
+    by : (f : CellField) (c : Cell) → field_of n i ≡ some f → cell_in p.rows row f k ≡ c → Promised (answer_of (source_of (cell_in p.rows row f []) c) c) out r out' → ((numbers_of r).number ≡ 1) ↔ Why
+    by f no_cell g q P = (λ u. inr (f, g, (no_cell_lem p.rows row f k).0 q), λ w. ap (λ (x : Result CellShown Refused). (numbers_of x).number) P.result_is)
+    by f (cell t d o m) g q P = (λ u. let y : (numbers_of r).number ≡ 0 = ap (λ (x : Result CellShown Refused). (numbers_of x).number) P.result_is in absurd (omega arith), λ w. clash w)
       where
-        clash : Why → r.number ≡ 1
+        clash : Why → (numbers_of r).number ≡ 1
         clash (inl u) = unequal (cc)
         clash (inr (h, u, w)) = let same : h ≡ f = cc in let z : no_cell ≡ cell t d o m = sym ((no_cell_lem p.rows row f k).1 (subst (NoSuchCell p.rows row) same w)) ∙ q in unequal (cc)
 
-    at : (g : Option CellField) → field_of n i ≡ g → Promised (cell_from (Paper.plan p) row g k) out r out' → (r.number ≡ 1) ↔ Why
-    at none g P = (λ u. inl g, λ w. ap (λ (x : CellShown). x.number) P.result_is)
+    at : (g : Option CellField) → field_of n i ≡ g → Promised (cell_from (Paper.plan p) row g k) out r out' → ((numbers_of r).number ≡ 1) ↔ Why
+    at none g P = (λ u. inl g, λ w. ap (λ (x : Result CellShown Refused). (numbers_of x).number) P.result_is)
     at (some f) g P = by f (cell_in p.rows row f k) g refl P

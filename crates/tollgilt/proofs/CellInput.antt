@@ -10,6 +10,7 @@ use lib.Dec.{leb, ltb}
 use lib.ListN.{length, take, drop, length-take, length-drop}
 use lib.Seq.{take_all, take-take}
 use borrow.Author.Tests.{le-leb, lt-leb, leb-true, leb-false, lt-ltb, le-ltb}
+use Rattle.std.specs.Prelude.{Option as Maybe, Some, Ok, Err}
 use Rattle.paper.specs.Lists.{bytes, if}
 use Rattle.paper.specs.Plan as Said
 use Rattle.paper.specs.Reading as Paper
@@ -17,7 +18,7 @@ use Rattle.paper.specs.Reading.{read}
 use Rattle.paper.specs.Listing.{Line, line, numeral, print, parted, refusal_lines}
 use Rattle.paper.specs.Cells.{CellField, Cell, cell, no_cell, cell_in}
 use Rattle.paper.specs.Calls.{read_at}
-use Rattle.paper.proofs.Small.{below_at}
+use Rattle.paper.proofs.Small.{below_at, unequal}
 use Rattle.paper.proofs.Rooms.{line_length, refusal_short}
 use Rattle.paper.proofs.CellRoom.{cell_fits, left_short}
 use Rattle.room.specs.Laid.{laid}
@@ -33,8 +34,8 @@ use Rattle.tollgilt.specs.Cells as Cells
 use Rattle.tollgilt.specs.Cells.{source_of, answer_of, cell_from, answered, Promised, flag_number}
 use Rattle.tollgilt.specs.Printed.{refusal, prints, asked, shown_lines, cell_lines, cell_printed, cell_behind, plancell, cell_lines_room, cell_answer, length_of, length_told, Prints}
 use Rattle.tollgilt.specs.declared.cells.CellShown.{CellShown}
-use Rattle.tollgilt.specs.declared.input.Printed.{Printed}
-use Rattle.tollgilt.specs.declared.input.Printed.TheVariants.{Bytes}
+use Rattle.tollgilt.specs.Refused.{refused_with}
+use Rattle.tollgilt.specs.declared.refused.Refused.{Refused}
 use Rattle.tollgilt.proofs.CellLaws.{roomy_call}
 use Rattle.tollgilt.proofs.CellDemands.{printed}
 use Rattle.tollgilt.proofs.InputLaws.{bytes_printed}
@@ -156,30 +157,30 @@ cell_short s = asked_short behind_row s 118 (omega arith) (λ row t. asked_short
 -- ---- what is printed
 
 -- the cell of pages, laid into a room of its own
-module _ (row n i : ℕ) (k input room₀ ss ns : List ℕ) (r : CellShown) (room' : List ℕ) (long : length room₀ ≡ 80) (few : length k ≤ 1000) (handed_in : read_at true input ss ns ≡ read (parted (take 12609 input)))
-    (P : Promised (answered room₀ input ss ns k row n i) room₀ r room') where
+module _ (row n i : ℕ) (k input room₀ ss ns : List ℕ) (room' : List ℕ) (long : length room₀ ≡ 80) (few : length k ≤ 1000) (handed_in : read_at true input ss ns ≡ read (parted (take 12609 input))) where
   -- a cell: its numbers and its text
-  pub cell_listed : r.number ≡ 0 → (r.length ≤ length room') × (r.omitted ≤ 1000) × (shown_lines r.source r.more r.omitted r.zero (take r.length room') ≡ cell_printed row n i k input)
+  pub cell_listed : (r : CellShown) → Promised (answered room₀ input ss ns k row n i) room₀ (Ok r) room'
+      → (r.length ≤ length room') × (r.omitted ≤ 1000) × (shown_lines (source_number r.source) r.more r.omitted r.zero (take r.length room') ≡ cell_printed row n i k input)
   unfolding cell_printed
-  cell_listed z =
-      let D = printed room₀ input ss ns k row n i r room' P z in
+  cell_listed r P =
+      let D = printed room₀ input ss ns k row n i r room' P in
       let plan_is : read (parted (take 12609 input)) ≡ Paper.plan D.plan = sym handed_in ∙ D.is_plan_lem in
       let c = cell_in D.plan.rows row D.field k in
       let s = source_of (cell_in D.plan.rows row D.field []) c in
-      let lines : shown_lines r.source r.more r.omitted r.zero (take r.length room') ≡ cell_lines (answer_of s c) = ap (λ (x : ℕ). shown_lines x r.more r.omitted r.zero (take r.length room')) D.source_is
-      ∙ sym (ap (λ (x : Cell). cell_lines (answer_of s x)) D.is_cell) in
+      let lines : shown_lines (source_number r.source) r.more r.omitted r.zero (take r.length room') ≡ cell_lines (answer_of s c)
+      = ap (λ (x : Source). shown_lines (source_number x) r.more r.omitted r.zero (take r.length room')) D.source_is ∙ sym (ap (λ (x : Cell). cell_lines (answer_of s x)) D.is_cell) in
       let given : cell_lines (cell_from (read (parted (take 12609 input))) row (field_of n i) k) ≡ cell_lines (answer_of s c) = ap (λ (a : Paper.Answer). cell_lines (cell_from a row (field_of n i) k)) plan_is
       ∙ ap (λ (g : Option CellField). cell_lines (cell_from (Paper.plan D.plan) row g k)) D.is_field in
       (D.lies, omega (arith, left_short (parted (take 12609 input)) D.plan plan_is row D.field k (take r.length room') r.more r.omitted r.zero D.is_cell), lines ∙ sym given)
 
   -- a refusal: its lines
-  pub refusal_shown : (r.number ≡ 0 → ⊥) → refusal_lines r.number r.page r.place ≡ cell_printed row n i k input
+  pub refusal_shown : (e : Refused) → Promised (answered room₀ input ss ns k row n i) room₀ (Err e) room' → refusal_lines e.number e.page e.place ≡ cell_printed row n i k input
   unfolding cell_printed
-  refusal_shown h = at (cell_from (read (parted (take 12609 input))) row (field_of n i) k) (subst (λ (a : Paper.Answer). Promised (cell_from a row (field_of n i) k) room₀ r room') (roomy_call room₀ input ss ns (omega arith) ∙ handed_in) P)
+  refusal_shown e P = at (cell_from (read (parted (take 12609 input))) row (field_of n i) k) (subst (λ (a : Paper.Answer). Promised (cell_from a row (field_of n i) k) room₀ (Err e) room') (roomy_call room₀ input ss ns (omega arith) ∙ handed_in) P)
     where
-      at : (a : Cells.Answer) → Promised a room₀ r room' → refusal_lines r.number r.page r.place ≡ cell_lines a
-      at (Cells.refusal m j l) Q = ap (λ (x : CellShown). refusal_lines x.number x.page x.place) Q.result_is
-      at (Cells.shows s t d o m) Q = absurd (h (ap (λ (x : CellShown). x.number) Q.result_is))
+      at : (a : Cells.Answer) → Promised a room₀ (Err e) room' → refusal_lines e.number e.page e.place ≡ cell_lines a
+      at (Cells.refusal m j l) Q = let p : e ≡ refused_with m j l = cc (Q.result_is) in ap (λ (x : Refused). refusal_lines x.number x.page x.place) p
+      at (Cells.shows s t d o m) Q = unequal (cc (Q.result_is))
 
 -- too little room is refusal 1
 pub cell_no_room : (out input : List ℕ) → length out < 118 → cell_answer out input ≡ refusal 1 0 0
@@ -187,12 +188,12 @@ unfolding cell_answer
 cell_no_room out input h = rw (lt-leb cell_lines_room (length out) h)
 
 -- with room enough, what is printed is laid
-pub cell_printed_lem : (out input w : List ℕ) → 118 ≤ length out → w ≡ asked behind_row input → (n : ℕ) (out' : List ℕ) → (n ≡ length w) × (out' ≡ laid out 0 w) → Prints (cell_answer out input) out (Bytes n) out'
+pub cell_printed_lem : (out input w : List ℕ) → 118 ≤ length out → w ≡ asked behind_row input → (n : ℕ) (out' : List ℕ) → (n ≡ length w) × (out' ≡ laid out 0 w) → Prints (cell_answer out input) out (Some n) out'
 unfolding cell_answer plancell
 cell_printed_lem out input w room e = bytes_printed w out (rw (le-leb cell_lines_room (length out) room, e))
 
 -- what is printed is never longer than the room
-pub cell_input_fits : (out input : List ℕ) (r : Printed) (out' : List ℕ) → Prints (cell_answer out input) out r out' → length_of r ≤ length out
+pub cell_input_fits : (out input : List ℕ) (r : Maybe ℕ) (out' : List ℕ) → Prints (cell_answer out input) out r out' → length_of r ≤ length out
 unfolding cell_answer
 cell_input_fits out input r out' P = at (leb cell_lines_room (length out)) refl P.length_is
   where

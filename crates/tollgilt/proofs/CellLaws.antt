@@ -11,11 +11,11 @@ use native.Mathlib.Omega.{arith}
 use lib.Dec.{leb}
 use lib.ListN.{length, drop, length-append}
 use borrow.Author.Tests.{leb-true, leb-false, le-leb, lt-leb}
+use Rattle.std.specs.Prelude.{Result, Ok, Err}
 use Rattle.paper.specs.Lists.{if, is_empty, concat}
 use Rattle.paper.specs.Plan as Said
 use Rattle.paper.specs.Plan.{Row}
 use Rattle.paper.specs.Reading as Paper
-use Rattle.paper.specs.Reading.{Numbers}
 use Rattle.paper.specs.Layout as Layout
 use Rattle.paper.specs.Layout.{head_values}
 use Rattle.paper.specs.Cells.{CellField, Cell, cell, no_cell, cell_in}
@@ -29,22 +29,24 @@ use Rattle.room.specs.Laid.{laid}
 use Rattle.plan.specs.Numbers.{record_at, show_rows, absent, fit_rows, plan_rows}
 use Rattle.plan.proofs.Shown.{rows_size, rows_shown, sound_back, plan_fit}
 use Rattle.listing.proofs.Rowed.{row_inside}
-use Rattle.reader.specs.Answers.{numbers_of}
+use Rattle.plan.specs.declared.Plan as Code
+use Rattle.reader.specs.Answers as Reader
 use Rattle.reader.specs.Promise as Reads
-use Rattle.reader.specs.declared.answer.Answer.{Answer}
-use Rattle.reader.specs.declared.reading.Reading.{Reading}
+use Rattle.reader.specs.declared.answer.Refusal.{Refusal}
 use Rattle.cell.specs.Numbered.{field_of, row_there, rows_for, own_span, in_range, cell_for, cell_at}
-use Rattle.cell.specs.Answers.{source_number, Values, values_of, text_of, is_dose, place_for, values_as, values_at}
-use Rattle.cell.specs.declared.answer.Answer.TheVariants as Told
+use Rattle.cell.specs.Answers.{Values, values_of, text_of, is_dose, place_for, values_as, values_at}
+use Rattle.cell.specs.declared.answer.NoCell.{NoCell}
 use Rattle.cell.specs.declared.answer.Shown.{Shown}
 use Rattle.cell.specs.declared.answer.Source.{Source}
 use Rattle.cell.specs.declared.answer.Source.TheVariants.{Plan, Catalogue, Neither}
 use Rattle.cell.proofs.Plans.{cell_shown}
 use Rattle.cell.proofs.Promises.{from_neither}
+use Rattle.tollgilt.specs.Refused.{refused_with, refused, numbers_of}
 use Rattle.tollgilt.specs.Cells as Cells
-use Rattle.tollgilt.specs.Cells.{refusal, shows, source_of, answer_of, cell_from, answered, refused_with, cell_with, given, room_after, Promised, flag_number, Handed}
+use Rattle.tollgilt.specs.Cells.{refusal, shows, source_of, answer_of, cell_from, answered, cell_with, given, room_after, Promised, told_of, Handed}
 use Rattle.tollgilt.specs.declared.cells.CellShown.{CellShown}
-use Rattle.tollgilt.proofs.ListLaws.{Numbered, call_numbered, call_plan, rows₀, text₀, read_here}
+use Rattle.tollgilt.specs.declared.refused.Refused.{Refused}
+use Rattle.tollgilt.proofs.ListLaws.{call_plan, rows₀, text₀, read_here}
 
 -- ---- the room
 
@@ -139,8 +141,8 @@ module _ {p : Said.Plan} {t : List ℕ} {count : ℕ} {rows : List ℕ} (L : Lai
 -- ---- what is promised
 
 -- a refusal, whatever refused
-pub refuses : (a : Cells.Answer) (out : List ℕ) (r : CellShown) (n k i : ℕ) → a ≡ refusal n k i → r ≡ refused_with n k i → Promised a out r out
-refuses a out r n k i e q = record { result_is = q ∙ sym (ap given e); room_is = sym (ap (λ (x : Cells.Answer). room_after x out) e) }
+pub refuses : (a : Cells.Answer) (out : List ℕ) (n k i : ℕ) → a ≡ refusal n k i → Promised a out (Err (refused_with n k i)) out
+refuses a out n k i e = rw e (record { result_is = refl; room_is = refl })
 
 -- what the code answers of a cell, and lays of its text, is what is answered of document 01's cell at its place
 module _ (rows : List ℕ) (count : ℕ) (t k : List ℕ) (row n i : ℕ) where
@@ -150,71 +152,68 @@ module _ (rows : List ℕ) (count : ℕ) (t k : List ℕ) (row n i : ℕ) where
   abbrev asked : Cell
   asked = cell_at rows count t k row n i
 
-  pub laid_cell : (s : Shown) → values_of (Told.Shown s) ≡ values_at rows count t k row n i → (v out : List ℕ) → v ≡ text_of asked → (from len : ℕ) (out' : List ℕ) → from ≡ source_number s.source
-      → (len ≡ 0 + length v) × (out' ≡ laid out 0 v) → Promised (answer_of place.0 asked) out (cell_with from len s.more s.omitted s.zero) out'
+  pub laid_cell : (s : Shown) → values_of (Ok s) ≡ values_at rows count t k row n i → (v out : List ℕ) → v ≡ text_of asked → (len : ℕ) (out' : List ℕ)
+      → (len ≡ 0 + length v) × (out' ≡ laid out 0 v) → Promised (answer_of place.0 asked) out (Ok (cell_with s.source len s.more s.omitted s.zero)) out'
   unfolding values_at
-  laid_cell s e v out q from len out' f w = at place asked e q
+  laid_cell s e v out q len out' w = at place asked e q
     where
-      at : (p : Source × ℕ) (c : Cell) → values_of (Told.Shown s) ≡ values_as p c → v ≡ text_of c → Promised (answer_of p.0 c) out (cell_with from len s.more s.omitted s.zero) out'
+      at : (p : Source × ℕ) (c : Cell) → values_of (Ok s) ≡ values_as p c → v ≡ text_of c → Promised (answer_of p.0 c) out (Ok (cell_with s.source len s.more s.omitted s.zero)) out'
       at p (cell x d o m) e q =
-          record { result_is = rw (f, w.0, zero-add (length v), q) (ap (λ (u : Values). cell_with (source_number u.source) (length x) u.more u.omitted u.zero) e); room_is = w.1 ∙ ap (laid out 0) q }
+          record { result_is = rw (w.0, zero-add (length v), q) (ap (λ (u : Values). Ok (cell_with u.source (length x) u.more u.omitted u.zero)) e); room_is = w.1 ∙ ap (laid out 0) q }
       at p no_cell e q = let z = ap (λ (u : Values). u.refusal.number) e in absurd (omega (arith, z))
 
-  pub no_such_cell : values_of Told.NoCell ≡ values_at rows count t k row n i → (out : List ℕ) (r : CellShown) → r ≡ refused_with 1 0 0 → Promised (answer_of place.0 asked) out r out
+  pub no_such_cell : (x : NoCell) → values_of (Err x) ≡ values_at rows count t k row n i → (out : List ℕ) → Promised (answer_of place.0 asked) out (Err (refused_with 1 0 0)) out
   unfolding values_at
-  no_such_cell e out r q = at place asked e
+  no_such_cell x e out = at place asked e
     where
-      at : (p : Source × ℕ) (c : Cell) → values_of Told.NoCell ≡ values_as p c → Promised (answer_of p.0 c) out r out
+      at : (p : Source × ℕ) (c : Cell) → values_of (Err x) ≡ values_as p c → Promised (answer_of p.0 c) out (Err (refused_with 1 0 0)) out
       at p (cell x d o m) e = let z = ap (λ (u : Values). u.refusal.number) e in absurd (omega (arith, z))
-      at p no_cell e = record { result_is = q; room_is = refl }
+      at p no_cell e = record { result_is = refl; room_is = refl }
 
 -- reading gave a plan: these numbers show it, and each of its cells has room
-pub record Readable (a : Paper.Answer) (r : Reading) (rows text : List ℕ) : Type 0 where
+pub record Readable (a : Paper.Answer) (q : Code.Plan) (rows text : List ℕ) : Type 0 where
   pub plan : Said.Plan
   pub is_plan_lem : a ≡ Paper.plan plan
-  pub laid : Laid plan text r.plan.rows rows
+  pub laid : Laid plan text q.rows rows
   pub short : (row : ℕ) (f : CellField) (k t : List ℕ) (d : Bool) (o : ℕ) (m : Bool) → cell_in plan.rows row f k ≡ cell t d o m → length t ≤ 80
 
+given_readable : (f : List (List ℕ)) (a : Paper.Answer) (rows text : List ℕ) (q : Code.Plan) → ((p : Said.Plan) → a ≡ Paper.plan p → Paper.read f ≡ Paper.plan p) → Reads.Reads a q rows₀ text₀ rows text
+    → Readable a q rows text
+given_readable f a rows text q g R =
+    let p = R.plan in
+    let e = g p R.answer_is in
+    let s = (read_sound f p e).0 in
+    let more : List ℕ = drop (0 + length (plan_rows p)) rows₀ in
+    let rest : List ℕ = drop (0 + length (Layout.text_of p)) text₀ in
+    record {
+      plan = p;
+      is_plan_lem = R.answer_is;
+      laid = rw (R.plan_is, R.rows_are, R.text_is) (record {
+        shows = ap (λ (x : Said.Plan). x.rows) (sound_back p rest more s);
+        fit = (plan_fit p rest more s).1;
+        room = omega (arith, length-append (plan_rows p) more, rows_size (length (concat (head_values p.head))) p.rows);
+      });
+      short = cell_fits f p e;
+    }
+
 -- what reading gives for a call with room enough
-module _ (out b ss ns : List ℕ) (h : 80 ≤ length out) (rows text : List ℕ) (r : Reading) (R : Reads.Promised (Reads.answered rows₀ text₀ b ss ns) rows₀ text₀ r rows text) where
-  read_as : Reads.Promised (cell_call (length out) b ss ns) rows₀ text₀ r rows text
-  read_as = read_here b ss ns rows text r (cell_call (length out) b ss ns) (roomy_call out b ss ns h) R
+module _ (out b ss ns : List ℕ) (h : 80 ≤ length out) (rows text : List ℕ) where
+  read_as : (r : Result Code.Plan Refusal) → Reads.Promised (Reads.answered rows₀ text₀ b ss ns) rows₀ text₀ r rows text → Reads.Promised (cell_call (length out) b ss ns) rows₀ text₀ r rows text
+  read_as r R = read_here b ss ns rows text r (cell_call (length out) b ss ns) (roomy_call out b ss ns h) R
 
   -- reading refused the pages
-  pub nothing_shown : (catalogue : List ℕ) (row field which : ℕ) (q : CellShown) (n k i : ℕ) → (n ≡ 0 → ⊥) → n ≡ (numbers_of r.answer).number → k ≡ (numbers_of r.answer).page → i ≡ (numbers_of r.answer).place
-      → q ≡ refused_with n k i → Promised (answered out b ss ns catalogue row field which) out q out
-  nothing_shown catalogue row field which q n k i z u v w e = at (cell_call (length out) b ss ns) read_as
-    where
-      at : (a : Paper.Answer) → Reads.Promised a rows₀ text₀ r rows text → Promised (cell_from a row (field_of field which) catalogue) out q out
-      at (Paper.refusal m j l) T = record { result_is = e ∙ rw (u, v, w) (ap (λ (t : Numbers). refused_with t.number t.page t.place) T.answer_is); room_is = refl }
-      at (Paper.plan p) T = absurd (z (u ∙ ap (λ (c : Answer). (numbers_of c).number) T.answer_is))
+  pub nothing_shown : (catalogue : List ℕ) (row field which : ℕ) (x : Refusal) → Reads.Refuses (Reads.answered rows₀ text₀ b ss ns) x rows₀ text₀ rows text
+      → Promised (answered out b ss ns catalogue row field which) out (Err (refused (Reader.numbers_of x))) out
+  nothing_shown catalogue row field which x R =
+      refuses (answered out b ss ns catalogue row field which) out _ _ _ (ap (λ (a : Paper.Answer). cell_from a row (field_of field which) catalogue) (read_as (Err x) R).answer_is)
 
   -- reading gave a plan
-  pub readable : (numbers_of r.answer).number ≡ 0 → Readable (cell_call (length out) b ss ns) r rows text
-  unfolding cell_call
-  readable z = at (cell_call (length out) b ss ns) refl (call_numbered (leb cell_room (length out)) b ss ns) read_as
-    where
-      at : (a : Paper.Answer) → cell_call (length out) b ss ns ≡ a → Numbered a → Reads.Promised a rows₀ text₀ r rows text → Readable a r rows text
-      at (Paper.refusal m k i) e g T = let y : (numbers_of r.answer).number ≡ m = ap (λ (t : Numbers). t.number) T.answer_is in absurd (omega arith)
-      at (Paper.plan p) e g T =
-          let q = plan_read out b ss ns p e in
-          let s = (read_sound (pages_at b ss ns) p q).0 in
-          let more : List ℕ = drop (0 + length (plan_rows p)) rows₀ in
-          let rest : List ℕ = drop (0 + length (Layout.text_of p)) text₀ in
-          record {
-            plan = p;
-            is_plan_lem = refl;
-            laid = rw (T.plan_is, T.rows_are, T.text_is) (record {
-              shows = ap (λ (x : Said.Plan). x.rows) (sound_back p rest more s);
-              fit = (plan_fit p rest more s).1;
-              room = omega (arith, length-append (plan_rows p) more, rows_size (length (concat (head_values p.head))) p.rows);
-            });
-            short = cell_fits (pages_at b ss ns) p q;
-          }
+  pub readable : (q : Code.Plan) → Reads.Reads (Reads.answered rows₀ text₀ b ss ns) q rows₀ text₀ rows text → Readable (cell_call (length out) b ss ns) q rows text
+  readable q R = given_readable (pages_at b ss ns) (cell_call (length out) b ss ns) rows text q (plan_read out b ss ns) (read_as (Ok q) R)
 
-module _ {a : Paper.Answer} {r : Reading} {rows text : List ℕ} (G : Readable a r rows text) (k : List ℕ) (row n i : ℕ) where
+module _ {a : Paper.Answer} {q : Code.Plan} {rows text : List ℕ} (G : Readable a q rows text) (k : List ℕ) (row n i : ℕ) where
   -- the cell's text has room
-  pub cell_short : (out : List ℕ) → 80 ≤ length out → length (text_of (cell_at rows r.plan.rows text k row n i)) ≤ length out
+  pub cell_short : (out : List ℕ) → 80 ≤ length out → length (text_of (cell_at rows q.rows text k row n i)) ≤ length out
   unfolding cell_at
   cell_short out h = at (field_of n i)
     where
@@ -222,24 +221,19 @@ module _ {a : Paper.Answer} {r : Reading} {rows text : List ℕ} (G : Readable a
       by f (cell t d o m) e = omega (arith, h, G.short row f k t d o m e)
       by f no_cell e = omega arith
 
-      at : (g : Option CellField) → length (text_of (cell_for rows r.plan.rows text k row g)) ≤ length out
+      at : (g : Option CellField) → length (text_of (cell_for rows q.rows text k row g)) ≤ length out
       at none = omega arith
-      at (some f) = by f (cell_for rows r.plan.rows text k row (some f)) (sym (plans_cell G.laid row f k))
+      at (some f) = by f (cell_for rows q.rows text k row (some f)) (sym (plans_cell G.laid row f k))
 
   -- what is laid of the cell is the documents' answer
-  pub cell_laid : (out : List ℕ) (q : CellShown) (out' : List ℕ) → Promised (answer_of (place_for (record_at rows (row - 1)) (field_of n i) k).0 (cell_at rows r.plan.rows text k row n i)) out q out'
-      → Promised (cell_from a row (field_of n i) k) out q out'
-  cell_laid out q out' P =
-      subst (λ (x : Cells.Answer). Promised x out q out') (cell_of_plan G.laid row n i k ∙ sym (ap (λ (x : Paper.Answer). cell_from x row (field_of n i) k) G.is_plan_lem)) P
+  pub cell_laid : (out : List ℕ) (r : Result CellShown Refused) (out' : List ℕ)
+      → Promised (answer_of (place_for (record_at rows (row - 1)) (field_of n i) k).0 (cell_at rows q.rows text k row n i)) out r out' → Promised (cell_from a row (field_of n i) k) out r out'
+  cell_laid out r out' P =
+      subst (λ (x : Cells.Answer). Promised x out r out') (cell_of_plan G.laid row n i k ∙ sym (ap (λ (x : Paper.Answer). cell_from x row (field_of n i) k) G.is_plan_lem)) P
 
 -- ---- the border
 
 -- what is handed out are the numbers of the result
-pub handed : (a : Cells.Answer) (out : List ℕ) (r : CellShown) (out' : List ℕ) (f m : ℕ) → Promised a out r out' → f ≡ flag_number r.more → m ≡ flag_number r.zero
-    → Handed a out r.number out' (r.length ∷ r.page ∷ r.place ∷ r.source ∷ f ∷ m ∷ r.omitted ∷ [])
-handed a out r out' f m P u v =
-    record {
-      number_is = ap (λ (t : CellShown). t.number) P.result_is;
-      told_is = rw (u, v) (ap (λ (t : CellShown). t.length ∷ t.page ∷ t.place ∷ t.source ∷ flag_number t.more ∷ flag_number t.zero ∷ t.omitted ∷ []) P.result_is);
-      room_is = P.room_is;
-    }
+pub handed : (a : Cells.Answer) (out : List ℕ) (r : Result CellShown Refused) (out' : List ℕ) → Promised a out r out' → Handed a out (numbers_of r).number out' (told_of r)
+handed a out r out' P =
+    record { number_is = ap (λ (x : Result CellShown Refused). (numbers_of x).number) P.result_is; told_is = ap told_of P.result_is; room_is = P.room_is }

@@ -10,15 +10,17 @@ use lib.Dec.{leb, ltb}
 use lib.ListN.{length, take, drop, get_or, length-take, length-drop, length-append, drop_of_length-le}
 use lib.Seq.{drop-cons, take-append_seam, take_all, take-take, get_or-take, length-take-le}
 use borrow.Author.Tests.{le-leb, lt-leb, leb-true, leb-false, lt-ltb, le-ltb, ltb-true, ltb-false}
+use Rattle.std.specs.Prelude.{Option, Some, Result, Ok, Err}
 use Rattle.paper.specs.Lists.{bytes, if, every, number, All}
 use Rattle.paper.specs.Bytes.{is_digit}
 use Rattle.paper.specs.Plan as Said
 use Rattle.paper.specs.Reading as Paper
-use Rattle.paper.specs.Reading.{Numbers, read}
+use Rattle.paper.specs.Reading.{read}
 use Rattle.paper.specs.Listing.{line, numeral, print, parted, refusal_lines}
 use Rattle.paper.specs.Calls.{read_at}
 use Rattle.paper.specs.Index.{holds, holders_from, holders}
 use Rattle.paper.specs.Plan.{Row}
+use Rattle.paper.proofs.Small.{unequal}
 use Rattle.paper.proofs.Rooms.{line_length, count_short, refusal_short}
 use Rattle.paper.proofs.ReadSound.{read_sound}
 use Rattle.room.specs.Laid.{laid}
@@ -26,14 +28,10 @@ use Rattle.fields.specs.Sets.{in_set}
 use Rattle.listing.specs.Split.{to_zero}
 use Rattle.listing.proofs.Fielded.{print_append}
 use Rattle.room.proofs.Pieces.{Fits, fits_as, fits_whole}
-use Rattle.reader.specs.Answers as Read
 use Rattle.tollgilt.specs.Find.{Promised, answered}
 use Rattle.tollgilt.specs.Printed.{refusal, prints, row_lines, held_lines, found_lines, found_in, is_asked, asks, number_asked, behind_number, AsksFor, Asks, asked, planfind, found_room, find_answer, length_of, length_told, Prints}
-use Rattle.tollgilt.specs.declared.find.Found.{Found}
-use Rattle.tollgilt.specs.declared.input.Printed.{Printed}
-use Rattle.tollgilt.specs.declared.input.Printed.TheVariants.{Bytes}
-use Rattle.tollgilt.specs.declared.input.Question.TheVariants.{Of}
-use Rattle.tollgilt.proofs.ListLaws.{Numbered, read_numbered}
+use Rattle.tollgilt.specs.Refused.{refused_with}
+use Rattle.tollgilt.specs.declared.refused.Refused.{Refused}
 use Rattle.tollgilt.proofs.FindLaws.{find_call_lem}
 use Rattle.tollgilt.proofs.InputLaws.{bytes_printed}
 
@@ -138,7 +136,7 @@ module _ (s : List ℕ) (e : ℕ) (found : e ≡ 0 + to_zero s) (inside : e ≤ 
       (ap (λ (b : Bool). b && (leb 1 (length (take (to_zero s) s)) && leb (length (take (to_zero s) s)) 8)) (ap (λ (k : ℕ). every is_digit (take k s)) (sym z) ∙ h))
 
   -- a number
-  pub a_number : e < length s → 1 ≤ e → e ≤ 8 → every (in_set 35) (drop 0 (take e s)) ≡ true → (n : ℕ) → n ≡ number 0 (take (e - 0) (drop 0 s)) → Asks s (Of n (e + 1))
+  pub a_number : e < length s → 1 ≤ e → e ≤ 8 → every (in_set 35) (drop 0 (take e s)) ≡ true → (n : ℕ) → n ≡ number 0 (take (e - 0) (drop 0 s)) → Asks s (Some (record { number = n; pages = e + 1 }))
   unfolding in_set
   a_number more least most digits n q =
       let plain : e - 0 ≡ e = omega arith in
@@ -240,35 +238,34 @@ first_decide = first_asked found_in 12609 (λ m s. rw (take-take 12609 12609 s (
 -- ---- what is printed
 
 -- the rows of pages, found in their plan
-module _ (n : ℕ) (input list₀ ss ns : List ℕ) (f : Found) (list' : List ℕ) (long : length list₀ ≡ 256) (handed_in : read_at true input ss ns ≡ read (parted (take 12609 input)))
-    (P : Promised (answered list₀ input ss ns) n list₀ f list') where
+module _ (n : ℕ) (input list₀ ss ns : List ℕ) (list' : List ℕ) (long : length list₀ ≡ 256) (handed_in : read_at true input ss ns ≡ read (parted (take 12609 input))) where
   abbrev answer : Paper.Answer
   answer = read (parted (take 12609 input))
 
-  found_as : Promised answer n list₀ f list'
-  found_as = subst (λ (a : Paper.Answer). Promised a n list₀ f list') (find_call_lem list₀ input ss ns (omega arith) ∙ handed_in) P
+  found_as : (f : Result ℕ Refused) → Promised (answered list₀ input ss ns) n list₀ f list' → Promised answer n list₀ f list'
+  found_as f P = subst (λ (a : Paper.Answer). Promised a n list₀ f list') (find_call_lem list₀ input ss ns (omega arith) ∙ handed_in) P
 
   -- a plan: the list begins with its rows, whose lines fit
-  pub rows_listed : (Read.numbers_of f.answer).number ≡ 0 → (f.rows ≤ length list') × (held_lines (take f.rows list') ≡ found_in n input)
+  pub rows_listed : (m : ℕ) → Promised (answered list₀ input ss ns) n list₀ (Ok m) list' → (m ≤ length list') × (held_lines (take m list') ≡ found_in n input)
   unfolding found_in
-  rows_listed z = at answer (read_numbered (parted (take 12609 input))) found_as
+  rows_listed m P = at answer (found_as (Ok m) P)
     where
-      at : (a : Paper.Answer) → Numbered a → Promised a n list₀ f list' → (f.rows ≤ length list') × (held_lines (take f.rows list') ≡ found_lines n a)
-      at (Paper.refusal m k i) g Q = let e : (Read.numbers_of f.answer).number ≡ m = ap (λ (t : Numbers). t.number) Q.answer_is in absurd (omega arith)
-      at (Paper.plan p) g Q =
+      at : (a : Paper.Answer) → Promised a n list₀ (Ok m) list' → (m ≤ length list') × (held_lines (take m list') ≡ found_lines n a)
+      at (Paper.refusal j k i) Q = unequal (cc (Q.result_is))
+      at (Paper.plan p) Q =
           let is : List ℕ = holders n p.rows in
           let rest : List ℕ = drop (0 + length is) list₀ in
-          (omega (arith, Q.rows_are, ap length Q.list_is, length-append is rest), ap held_lines (rw (Q.rows_are, Q.list_is) (take-append_seam is rest)))
+          let many : m ≡ length is = cc (Q.result_is) in
+          (omega (arith, many, ap length Q.list_is, length-append is rest), ap held_lines (rw (many, Q.list_is) (take-append_seam is rest)))
 
   -- a refusal: its lines
-  pub refusal_listed : (number page place : ℕ) → number ≡ (Read.numbers_of f.answer).number → page ≡ (Read.numbers_of f.answer).page → place ≡ (Read.numbers_of f.answer).place → (number ≡ 0 → ⊥)
-      → refusal_lines number page place ≡ found_in n input
+  pub refusal_listed : (e : Refused) → Promised (answered list₀ input ss ns) n list₀ (Err e) list' → refusal_lines e.number e.page e.place ≡ found_in n input
   unfolding found_in
-  refusal_listed number page place u v w h = rw (u, v, w) (at answer found_as)
+  refusal_listed e P = at answer (found_as (Err e) P)
     where
-      at : (a : Paper.Answer) → Promised a n list₀ f list' → refusal_lines (Read.numbers_of f.answer).number (Read.numbers_of f.answer).page (Read.numbers_of f.answer).place ≡ found_lines n a
-      at (Paper.refusal m k i) Q = ap (λ (t : Numbers). refusal_lines t.number t.page t.place) Q.answer_is
-      at (Paper.plan p) Q = absurd (h (u ∙ ap (λ (t : Numbers). t.number) Q.answer_is))
+      at : (a : Paper.Answer) → Promised a n list₀ (Err e) list' → refusal_lines e.number e.page e.place ≡ found_lines n a
+      at (Paper.refusal m k i) Q = let p : e ≡ refused_with m k i = cc (Q.result_is) in ap (λ (t : Refused). refusal_lines t.number t.page t.place) p
+      at (Paper.plan p) Q = unequal (cc (Q.result_is))
 
 -- bytes told in other words are laid as well
 pub bytes_as : {w v : List ℕ} → w ≡ v → (out : List ℕ) (n : ℕ) (out' : List ℕ) → (n ≡ length w) × (out' ≡ laid out 0 w) → (n ≡ length v) × (out' ≡ laid out 0 v)
@@ -280,7 +277,7 @@ unfolding found_in
 found_in_short n s = found_short n (parted (take 12609 s))
 
 -- what is printed is never longer than the room
-pub find_fits : (out input : List ℕ) (r : Printed) (out' : List ℕ) → Prints (find_answer out input) out r out' → length_of r ≤ length out
+pub find_fits : (out input : List ℕ) (r : Option ℕ) (out' : List ℕ) → Prints (find_answer out input) out r out' → length_of r ≤ length out
 unfolding find_answer planfind
 find_fits out input r out' P = at (leb found_room (length out)) refl P.length_is
   where
@@ -299,12 +296,12 @@ module _ (out input : List ℕ) (room : 2057 ≤ length out) where
   answer_is = rw (le-leb found_room (length out) room)
 
   -- no number is asked for
-  pub no_number_printed : asks input ≡ false → (n : ℕ) (out' : List ℕ) → (n ≡ length (refusal_lines 1 0 0)) × (out' ≡ laid out 0 (refusal_lines 1 0 0)) → Prints (find_answer out input) out (Bytes n) out'
+  pub no_number_printed : asks input ≡ false → (n : ℕ) (out' : List ℕ) → (n ≡ length (refusal_lines 1 0 0)) × (out' ≡ laid out 0 (refusal_lines 1 0 0)) → Prints (find_answer out input) out (Some n) out'
   unfolding planfind
   no_number_printed e = bytes_printed (refusal_lines 1 0 0) out (answer_is ∙ ap prints (sym (asked_none found_in input e)))
 
   -- the number that is asked for
   pub found_printed : (m at : ℕ) → AsksFor input m at → (n : ℕ) (out' : List ℕ) → (n ≡ length (found_in m (take (length input - at) (drop at input)))) × (out' ≡ laid out 0 (found_in m (take (length input - at) (drop at input))))
-      → Prints (find_answer out input) out (Bytes n) out'
+      → Prints (find_answer out input) out (Some n) out'
   unfolding planfind
   found_printed m at A = bytes_printed (found_in m (take (length input - at) (drop at input))) out (answer_is ∙ ap prints (sym (asked_one found_in input m at A)))

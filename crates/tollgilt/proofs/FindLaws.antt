@@ -4,31 +4,33 @@ use mathlib.Core.Path.{◌≡◌, refl, ap, sym, ◌∙◌, subst}
 use mathlib.Core.Bool.{Bool, true}
 use mathlib.Core.List.{List, [], ◌∷◌}
 use Prim.Native.Nat.{ℕ, ◌≤◌, ◌<◌}
-use native.Mathlib.Omega.{arith}
 use lib.Dec.{leb}
 use lib.ListN.{length, replicate, length-replicate}
 use borrow.Author.Tests.{le-leb, lt-leb}
+use Rattle.std.specs.Prelude.{Option, Result, Ok, Err}
 use Rattle.paper.specs.Lists.{if}
+use Rattle.paper.specs.Plan as Said
 use Rattle.paper.specs.Reading as Paper
-use Rattle.paper.specs.Reading.{Numbers}
 use Rattle.paper.specs.Calls.{row_room, read_at, find_call}
 use Rattle.paper.specs.Index as Asked
 use Rattle.paper.specs.Index.{pair_room, holders, reply_of}
 use Rattle.room.specs.Laid.{laid}
-use Rattle.reader.specs.Answers.{numbers_of, told}
+use Rattle.reader.specs.Answers as Reader
+use Rattle.reader.specs.Answers.{told}
 use Rattle.reader.specs.Promise as Reads
-use Rattle.reader.specs.declared.answer.Answer.{Answer}
-use Rattle.reader.specs.declared.answer.Answer.TheVariants as Code
+use Rattle.reader.specs.declared.answer.Refusal.{Refusal}
 use Rattle.index.specs.Pairs.{pairs_lent}
 use Rattle.index.specs.Answers as Index
 use Rattle.index.specs.Answers.{replied, replied_into, reply_told}
 use Rattle.index.specs.Promise as Indexing
-use Rattle.index.specs.declared.answer.Reply.{Reply}
+use Rattle.index.specs.declared.answer.Held.{Held}
+use Rattle.index.specs.declared.answer.Refusal as Asking
 use Rattle.index.specs.declared.reading.Indexed.{Indexed}
 use Rattle.index.proofs.Demands.{read_asked}
-use Rattle.tollgilt.specs.Find.{Promised, Handed, answered, count_of}
-use Rattle.tollgilt.specs.declared.find.Found.{Found}
-use Rattle.tollgilt.proofs.ListLaws.{Numbered, call_numbered, rows₀, text₀, pages_decide}
+use Rattle.tollgilt.specs.Refused.{refused_with, refused, numbers_of}
+use Rattle.tollgilt.specs.Find.{Promised, Handed, answered, given, rows_told, list_after, count_of}
+use Rattle.tollgilt.specs.declared.refused.Refused.{Refused}
+use Rattle.tollgilt.proofs.ListLaws.{rows₀, text₀, pages_decide, told_of}
 
 -- ---- the room
 
@@ -44,13 +46,9 @@ find_call_lem list b ss ns h = ap (λ (x : Bool). read_at x b ss ns) (le-leb row
 
 -- ---- what is promised
 
--- the result of an answer and a number of rows
-abbrev pub result : Answer → ℕ → Found
-result a n = record { answer = a; rows = n }
-
--- too little room
-pub nothing_asked : (a : Paper.Answer) (n : ℕ) (list : List ℕ) → a ≡ Paper.refusal 1 0 0 → Promised a n list (result Code.NoRoom 0) list
-nothing_asked a n list e = rw e (record { answer_is = refl; rows_are = refl; list_is = refl })
+-- a refusal, whatever refused
+pub refuses : (a : Paper.Answer) (n : ℕ) (list : List ℕ) (m k i : ℕ) → a ≡ Paper.refusal m k i → Promised a n list (Err (refused_with m k i)) list
+refuses a n list m k i e = rw e (record { result_is = refl; list_is = refl })
 
 -- the index that is lent to reading; it is room enough
 abbrev pub index₀ : List ℕ
@@ -69,50 +67,53 @@ list_told [] list = refl
 list_told (i ∷ is) list = refl
 
 -- what reading with the index gives for a call with room enough
-module _ (list b ss ns : List ℕ) (n : ℕ) (h : 256 ≤ length list) (x : Indexed) (rows text index : List ℕ)
-    (R : Indexing.Promised (Indexing.answered rows₀ text₀ index₀ b ss ns) rows₀ text₀ index₀ x rows text index) where
+module _ (list b ss ns : List ℕ) (n : ℕ) (h : 256 ≤ length list) (rows text index : List ℕ) where
   same : Indexing.answered rows₀ text₀ index₀ b ss ns ≡ answered list b ss ns
   same = with_index b ss ns ∙ sym (find_call_lem list b ss ns h)
 
-  read_as : Indexing.Promised (answered list b ss ns) rows₀ text₀ index₀ x rows text index
-  read_as = subst (λ (a : Paper.Answer). Indexing.Promised a rows₀ text₀ index₀ x rows text index) same R
-
   -- reading refused the pages
-  pub nothing_found : ((numbers_of x.reading.answer).number ≡ 0 → ⊥) → Promised (answered list b ss ns) n list (result x.reading.answer 0) list
-  nothing_found z = at (answered list b ss ns) read_as
-    where
-      at : (a : Paper.Answer) → Indexing.Promised a rows₀ text₀ index₀ x rows text index → Promised a n list (result x.reading.answer 0) list
-      at (Paper.refusal m k i) T = record { answer_is = T.reading_is.answer_is; rows_are = refl; list_is = refl }
-      at (Paper.plan p) T = absurd (z (ap (λ (c : Answer). (numbers_of c).number) T.reading_is.answer_is))
+  pub nothing_found : (x : Refusal) → Indexing.Refuses (Indexing.answered rows₀ text₀ index₀ b ss ns) x rows₀ text₀ index₀ rows text index
+      → Promised (answered list b ss ns) n list (Err (refused (Reader.numbers_of x))) list
+  nothing_found x R = refuses (answered list b ss ns) n list _ _ _ (sym same ∙ R.refused_is.answer_is)
 
-  -- the answer of the index, with a list lent for the rows
-  abbrev reply : Asked.Reply
-  reply = replied_into list rows x.reading.plan.rows index x.pairs n
+  module _ (x : Indexed) (R : Indexing.Reads (Indexing.answered rows₀ text₀ index₀ b ss ns) x rows₀ text₀ index₀ rows text index) where
+    -- the answer of the index, with a list lent for the rows
+    abbrev reply : Asked.Reply
+    reply = replied_into list rows x.plan.rows index x.pairs n
 
-  into : reply ≡ replied rows x.reading.plan.rows index x.pairs n
-  unfolding replied_into
-  into = rw (le-leb row_room (length list) h)
+    into : reply ≡ replied rows x.plan.rows index x.pairs n
+    unfolding replied_into
+    into = rw (le-leb row_room (length list) h)
 
-  -- reading gave a plan: the index of its rows is asked
-  pub found : (numbers_of x.reading.answer).number ≡ 0 → (r : Reply) (list' : List ℕ) (k : ℕ) → (r ≡ reply_told reply) × (list' ≡ Index.list_after reply list) → k ≡ count_of r
-      → Promised (answered list b ss ns) n list (result x.reading.answer k) list'
-  unfolding find_call
-  found z r list' k (e, f) q = at (answered list b ss ns) refl (call_numbered (leb row_room (length list)) b ss ns) read_as
-    where
-      at : (a : Paper.Answer) → answered list b ss ns ≡ a → Numbered a → Indexing.Promised a rows₀ text₀ index₀ x rows text index → Promised a n list (result x.reading.answer k) list'
-      at (Paper.refusal m j i) u g T = let y : (numbers_of x.reading.answer).number ≡ m = ap (λ (t : Numbers). t.number) T.reading_is.answer_is in absurd (omega arith)
-      at (Paper.plan p) u g T =
-          let said : reply ≡ reply_of (holders n p.rows) = into ∙ read_asked rows₀ text₀ index₀ b ss ns p x rows text index n (same ∙ u) R in
-          record {
-            answer_is = ap numbers_of T.reading_is.answer_is;
-            rows_are = q ∙ ap count_of (e ∙ ap reply_told said) ∙ count_told (holders n p.rows);
-            list_is = f ∙ ap (λ (t : Asked.Reply). Index.list_after t list) said ∙ list_told (holders n p.rows) list;
-          }
+    -- reading gave a plan: the index of its rows is asked
+    pub found : (r : Result (Option Held) Asking.Refusal) (list' : List ℕ) (k : ℕ) → (r ≡ reply_told reply) × (list' ≡ Index.list_after reply list) → k ≡ count_of r
+        → Promised (answered list b ss ns) n list (Ok k) list'
+    found r list' k (e, f) q =
+        let p : Said.Plan = R.reading_is.plan in
+        let is : answered list b ss ns ≡ Paper.plan p = sym same ∙ R.reading_is.answer_is in
+        let (y, same_read, asked) = read_asked rows₀ text₀ index₀ b ss ns p (Ok x) rows text index n R.reading_is.answer_is R in
+        let same_x : y ≡ x = cc (same_read) in
+        let said : reply ≡ reply_of (holders n p.rows) = into ∙ subst (λ (t : Indexed). replied rows t.plan.rows index t.pairs n ≡ reply_of (holders n p.rows)) same_x asked in
+        record {
+          result_is = ap Ok (q ∙ ap count_of (e ∙ ap reply_told said) ∙ count_told (holders n p.rows)) ∙ sym (ap (given n) is);
+          list_is = f ∙ ap (λ (t : Asked.Reply). Index.list_after t list) said ∙ list_told (holders n p.rows) list ∙ sym (ap (λ (a : Paper.Answer). list_after n a list) is);
+        }
 
 -- ---- the border
 
 -- what is handed out are the numbers of the answer
-pub handed : (a : Paper.Answer) (m : ℕ) (list list' : List ℕ) (f : Found) (n k i : ℕ) → Promised a m list f list' → n ≡ (numbers_of f.answer).number → k ≡ (numbers_of f.answer).page
-    → i ≡ (numbers_of f.answer).place → Handed a m list n list' (f.rows ∷ k ∷ i ∷ [])
-handed a m list list' f n k i P x y z =
-    rw (x, y, z, P.answer_is) (record { number_is = refl; told_is = ap (λ (j : ℕ). j ∷ (told a).page ∷ (told a).place ∷ []) P.rows_are; list_is = P.list_is })
+pub handed : (a : Paper.Answer) (m : ℕ) (list : List ℕ) (r : Result ℕ Refused) (list' : List ℕ) → Promised a m list r list' → Handed a m list (numbers_of r).number list' (told_of r)
+handed a m list r list' P =
+    record {
+      number_is = ap (λ (x : Result ℕ Refused). (numbers_of x).number) P.result_is ∙ number a;
+      told_is = ap told_of P.result_is ∙ all a;
+      list_is = P.list_is;
+    }
+  where
+    number : (a : Paper.Answer) → (numbers_of (given m a)).number ≡ (told a).number
+    number (Paper.refusal n k i) = refl
+    number (Paper.plan p) = refl
+
+    all : (a : Paper.Answer) → told_of (given m a) ≡ rows_told m a ∷ (told a).page ∷ (told a).place ∷ []
+    all (Paper.refusal n k i) = refl
+    all (Paper.plan p) = refl

@@ -10,6 +10,7 @@ use lib.Dec.{leb}
 use lib.ListN.{length, take, drop, length-append, length-drop, take-append-drop}
 use lib.Seq.{take_at, drop_at, drop-drop}
 use borrow.Author.Tests.{leb-true, le-leb}
+use Rattle.std.specs.Prelude.{Result, Ok}
 use Rattle.paper.specs.Lists.{concat}
 use Rattle.paper.specs.Plan as Said
 use Rattle.paper.specs.Reading as Paper
@@ -18,18 +19,20 @@ use Rattle.paper.specs.Writing as Spelled
 use Rattle.paper.specs.Writing.{too_long, written, fresh}
 use Rattle.paper.specs.Cuts.{Cut}
 use Rattle.paper.specs.Calls.{page_room, inside, pages_at, read_at, fresh_call}
-use Rattle.paper.proofs.Small.{no, and_intro}
+use Rattle.paper.proofs.Small.{no, and_intro, unequal}
 use Rattle.paper.proofs.AnyOrder.{is_plan}
 use Rattle.paper.proofs.CallLaws.{starts_of, lengths_of, reads_pages}
 use Rattle.paper.proofs.Writer.{round_trip, writable, room, is_cut, fewest, same_pages}
 use Rattle.room.specs.Laid.{laid}
 use Rattle.plan.specs.Numbers.{padded}
-use Rattle.tollgilt.specs.Fresh.{Answer, refusal, pages, writes, afresh, answered, pages_of, Promised, behind, total, lens_told, starts_told, bytes_told, pages_in, Begins}
-use Rattle.tollgilt.specs.declared.fresh.Fresh.{Fresh}
+use Rattle.writer.specs.Promise.{pages_told}
+use Rattle.writer.specs.declared.writing.Pages.{Pages}
+use Rattle.tollgilt.specs.Fresh.{Answer, refusal, pages, writes, afresh, answered, Promised, behind, total, lens_told, starts_told, bytes_told, pages_in, Begins}
+use Rattle.tollgilt.specs.declared.refused.Refused.{Refused}
 use Rattle.tollgilt.proofs.ListLaws.{Numbered, call_numbered, call_plan}
 
 -- what a call gives: the room as lent, the pages handed in, the result, and the room as handed back
-abbrev pub Gives : List ℕ → List ℕ → List ℕ → List ℕ → Fresh → List ℕ → Type 0
+abbrev pub Gives : List ℕ → List ℕ → List ℕ → List ℕ → Result Pages Refused → List ℕ → Type 0
 Gives out b ss ns r out' = Promised (answered out b ss ns) out r out'
 
 -- ---- how a call ends
@@ -70,7 +73,7 @@ ends_with_lem (long p i e w) = ap afresh e ∙ ap writes w
 ends_with_lem (fine p f e w) = ap afresh e ∙ ap writes w
 
 -- what a call gives at its end
-pub gives_end : (out b ss ns : List ℕ) (r : Fresh) (out' : List ℕ) → Gives out b ss ns r out' → (x : Ends (fresh_call (length out) b ss ns)) → Promised (ends_with x) out r out'
+pub gives_end : (out b ss ns : List ℕ) (r : Result Pages Refused) (out' : List ℕ) → Gives out b ss ns r out' → (x : Ends (fresh_call (length out) b ss ns)) → Promised (ends_with x) out r out'
 gives_end out b ss ns r out' F x = subst (λ (a : Answer). Promised a out r out') (ends_with_lem x) F
 
 -- ---- the room for pages
@@ -121,13 +124,13 @@ bytes_all (w ∷ f) = omega (arith, bytes_all f, length-append w (concat f))
 -- ---- fresh pages in a room
 
 -- the room, as handed back, holds the fresh pages of the plan, and these numbers tell them
-pub record Holds (p : Said.Plan) (out : List ℕ) (r : Fresh) (out' : List ℕ) : Type 0 where
+pub record Holds (p : Said.Plan) (out : List ℕ) (r : Pages) (out' : List ℕ) : Type 0 where
   pub sheets : List (List ℕ)
   pub is_fresh : fresh p ≡ written sheets
-  pub result_is : r ≡ pages_of sheets
+  pub result_is : r ≡ pages_told sheets
   pub room_is : out' ≡ laid out 0 (concat sheets)
 
-module _ {p : Said.Plan} {out : List ℕ} {r : Fresh} {out' : List ℕ} (G : Holds p out r out') where
+module _ {p : Said.Plan} {out : List ℕ} {r : Pages} {out' : List ℕ} (G : Holds p out r out') where
   lens_told_lem : lens_told r ≡ lengths_of G.sheets
   lens_told_lem = ap lens_told G.result_is ∙ lens_front 9 G.sheets (room p G.sheets G.is_fresh).0
 
@@ -167,33 +170,33 @@ module _ {p : Said.Plan} {out : List ℕ} {r : Fresh} {out' : List ℕ} (G : Hol
   pub written_in : fresh p ≡ written (pages_in r out')
   written_in = G.is_fresh ∙ ap written (sym pages_in_lem)
 
-  count_in_lem : length (pages_in r out') ≡ r.pages
-  count_in_lem = ap length pages_in_lem ∙ sym (ap (λ (t : Fresh). t.pages) G.result_is)
+  count_in_lem : length (pages_in r out') ≡ r.count
+  count_in_lem = ap length pages_in_lem ∙ sym (ap (λ (t : Pages). t.count) G.result_is)
 
   -- they are a cut of the plan's rows, spelled
-  pub cut_in : (c : Cut p.head p.rows r.pages) × (pages_in r out' ≡ Spelled.pages p.head r.pages 1 c.parts)
+  pub cut_in : (c : Cut p.head p.rows r.count) × (pages_in r out' ≡ Spelled.pages p.head r.count 1 c.parts)
   cut_in =
       subst (λ (n : ℕ). (c : Cut p.head p.rows n) × (pages_in r out' ≡ Spelled.pages p.head n 1 c.parts)) count_in_lem
       (is_cut p (pages_in r out') written_in)
 
   -- no cut has fewer
-  pub fewest_in : (k : ℕ) → Cut p.head p.rows k → r.pages ≤ k
+  pub fewest_in : (k : ℕ) → Cut p.head p.rows k → r.count ≤ k
   fewest_in k c = subst (λ (n : ℕ). n ≤ k) count_in_lem (fewest p (pages_in r out') written_in k c)
 
 -- ---- two rooms with fresh pages
 
 -- they hold the same pages exactly when the plans are the same
-pub same_in : {p₁ p₂ : Said.Plan} {out₁ out₂ : List ℕ} {r₁ r₂ : Fresh} {out₁' out₂' : List ℕ} → Holds p₁ out₁ r₁ out₁' → Holds p₂ out₂ r₂ out₂'
+pub same_in : {p₁ p₂ : Said.Plan} {out₁ out₂ : List ℕ} {r₁ r₂ : Pages} {out₁' out₂' : List ℕ} → Holds p₁ out₁ r₁ out₁' → Holds p₂ out₂ r₂ out₂'
     → (pages_in r₁ out₁' ≡ pages_in r₂ out₂') ↔ (p₁ ≡ p₂)
 same_in {p₁} {p₂} {out₁} {out₂} {r₁} {r₂} {out₁'} {out₂'} G₁ G₂ = same_pages p₁ p₂ (pages_in r₁ out₁') (pages_in r₂ out₂') (written_in G₁) (written_in G₂)
 
-module _ {p : Said.Plan} {out₁ out₂ : List ℕ} {r₁ r₂ : Fresh} {out₁' out₂' : List ℕ} (G₁ : Holds p out₁ r₁ out₁') (G₂ : Holds p out₂ r₂ out₂') where
+module _ {p : Said.Plan} {out₁ out₂ : List ℕ} {r₁ r₂ : Pages} {out₁' out₂' : List ℕ} (G₁ : Holds p out₁ r₁ out₁') (G₂ : Holds p out₂ r₂ out₂') where
   sheets_alike : G₁.sheets ≡ G₂.sheets
   sheets_alike = sym (pages_in_lem G₁) ∙ ((same_in G₁ G₂).1 refl ∙ pages_in_lem G₂)
 
   -- where they hold the same plan, the same numbers tell the same pages
   pub told_alike : (r₁ ≡ r₂) × (pages_in r₁ out₁' ≡ pages_in r₂ out₂')
-  told_alike = (G₁.result_is ∙ (ap pages_of sheets_alike ∙ sym G₂.result_is), (same_in G₁ G₂).1 refl)
+  told_alike = (G₁.result_is ∙ (ap pages_told sheets_alike ∙ sym G₂.result_is), (same_in G₁ G₂).1 refl)
 
   -- rooms that were lent alike are alike
   pub room_alike : out₁ ≡ out₂ → out₁' ≡ out₂'
@@ -211,16 +214,16 @@ module _ {p : Said.Plan} {out₁ out₂ : List ℕ} {r₁ r₂ : Fresh} {out₁'
 -- ---- a call that gives pages
 
 -- its plan, and the room that holds the plan's fresh pages
-pub record Freshly (out b ss ns : List ℕ) (r : Fresh) (out' : List ℕ) : Type 0 where
+pub record Freshly (out b ss ns : List ℕ) (r : Pages) (out' : List ℕ) : Type 0 where
   pub plan : Said.Plan
   pub is_plan_lem : fresh_call (length out) b ss ns ≡ Paper.plan plan
   pub holds : Holds plan out r out'
 
--- it is a call whose number is 0
-pub freshly : (out b ss ns : List ℕ) (r : Fresh) (out' : List ℕ) → Gives out b ss ns r out' → r.number ≡ 0 → Freshly out b ss ns r out'
-freshly out b ss ns r out' F z = at (ends out b ss ns) (gives_end out b ss ns r out' F (ends out b ss ns))
+-- it is a call that is not refused
+pub freshly : (out b ss ns : List ℕ) (r : Pages) (out' : List ℕ) → Gives out b ss ns (Ok r) out' → Freshly out b ss ns r out'
+freshly out b ss ns r out' F = at (ends out b ss ns) (gives_end out b ss ns (Ok r) out' F (ends out b ss ns))
   where
-    at : (x : Ends (fresh_call (length out) b ss ns)) → Promised (ends_with x) out r out' → Freshly out b ss ns r out'
-    at (stopped n k i g h e) P = let q : r.number ≡ n = ap (λ (t : Fresh). t.number) P.result_is in absurd (omega arith)
-    at (long p i e w) P = let q : r.number ≡ 14 = ap (λ (t : Fresh). t.number) P.result_is in absurd (omega arith)
-    at (fine p f e w) P = record { plan = p; is_plan_lem = e; holds = record { sheets = f; is_fresh = w; result_is = P.result_is; room_is = P.room_is } }
+    at : (x : Ends (fresh_call (length out) b ss ns)) → Promised (ends_with x) out (Ok r) out' → Freshly out b ss ns r out'
+    at (stopped n k i g h e) P = unequal (cc (P.result_is))
+    at (long p i e w) P = unequal (cc (P.result_is))
+    at (fine p f e w) P = record { plan = p; is_plan_lem = e; holds = record { sheets = f; is_fresh = w; result_is = cc (P.result_is); room_is = P.room_is } }

@@ -9,25 +9,24 @@ use lib.Dec.{leb}
 use lib.ListN.{length, take, length-take}
 use lib.Seq.{get_or-take}
 use borrow.Author.Tests.{le-leb, lt-leb, leb-true, leb-false}
+use Rattle.std.specs.Prelude.{Option, Some, None, Result, Ok, Err}
 use Rattle.paper.specs.Lists.{if}
 use Rattle.paper.specs.Reading as Paper
-use Rattle.paper.specs.Reading.{Numbers, read}
+use Rattle.paper.specs.Reading.{read}
 use Rattle.paper.specs.Listing.{onto, parted, refusal_lines, answer_lines, planlist}
 use Rattle.paper.specs.Calls.{listing_room, inside, read_at}
-use Rattle.paper.proofs.Small.{no, both}
+use Rattle.paper.proofs.Small.{no, both, unequal}
 use Rattle.paper.proofs.Causes.{many}
 use Rattle.paper.proofs.CallLaws.{reads_pages, Agree, only_pages, one}
 use Rattle.paper.proofs.Rooms.{answer_fits}
 use Rattle.room.specs.Laid.{laid}
 use Rattle.listing.specs.Split.{starts_from, lengths}
 use Rattle.listing.proofs.Splits.{Split, split_fronts, nine_or_fewer}
-use Rattle.reader.specs.Answers as Read
 use Rattle.tollgilt.specs.Promise.{Promised, answered}
 use Rattle.tollgilt.specs.Printed.{Answer, refusal, prints, list_answer, length_of, length_told, Prints}
-use Rattle.tollgilt.specs.declared.input.Printed.{Printed}
-use Rattle.tollgilt.specs.declared.input.Printed.TheVariants.{Bytes, NoRoom}
-use Rattle.tollgilt.specs.declared.list.Listed.{Listed}
-use Rattle.tollgilt.proofs.ListLaws.{Numbered, read_numbered, list_call_lem}
+use Rattle.tollgilt.specs.Refused.{refused_with}
+use Rattle.tollgilt.specs.declared.refused.Refused.{Refused}
+use Rattle.tollgilt.proofs.ListLaws.{list_call_lem}
 
 -- ---- the pages lie in the input
 
@@ -94,11 +93,11 @@ split_read b m starts₀ lens₀ starts lens r counts w ten =
 -- ---- what is printed
 
 -- bytes that are laid in the room are printed
-pub bytes_printed : {a : Answer} (w out : List ℕ) → a ≡ prints w → (n : ℕ) (out' : List ℕ) → (n ≡ length w) × (out' ≡ laid out 0 w) → Prints a out (Bytes n) out'
+pub bytes_printed : {a : Answer} (w out : List ℕ) → a ≡ prints w → (n : ℕ) (out' : List ℕ) → (n ≡ length w) × (out' ≡ laid out 0 w) → Prints a out (Some n) out'
 bytes_printed w out e n out' (u, v) = rw e (record { answer_is = refl; length_is = u; room_is = v })
 
 -- into too little room nothing
-pub none_printed : {a : Answer} (out : List ℕ) → a ≡ refusal 1 0 0 → Prints a out NoRoom out
+pub none_printed : {a : Answer} (out : List ℕ) → a ≡ refusal 1 0 0 → Prints a out None out
 none_printed out e = rw e (record { answer_is = refl; length_is = refl; room_is = refl })
 
 -- ---- what planlist prints
@@ -109,7 +108,7 @@ unfolding list_answer
 list_no_room out input h = rw h
 
 -- what is printed is never longer than the room
-pub list_fits : (out input : List ℕ) (r : Printed) (out' : List ℕ) → Prints (list_answer out input) out r out' → length_of r ≤ length out
+pub list_fits : (out input : List ℕ) (r : Option ℕ) (out' : List ℕ) → Prints (list_answer out input) out r out' → length_of r ≤ length out
 unfolding list_answer planlist
 list_fits out input r out' P = at (leb listing_room (length out)) refl P.length_is
   where
@@ -117,42 +116,39 @@ list_fits out input r out' P = at (leb listing_room (length out)) refl P.length_
     at true e q = omega (arith, leb-true listing_room (length out) e, answer_fits (parted (take 12609 input)))
     at false e q = omega arith
 
--- the lines of a listing, of an answer that is a plan
-plan_lines_lem : (a : Paper.Answer) (out out' : List ℕ) (l : Listed) → Numbered a → Promised a out l out' → (Read.numbers_of l.answer).number ≡ 0
-    → (l.length ≡ length (answer_lines a)) × (out' ≡ laid out 0 (answer_lines a))
-plan_lines_lem (Paper.refusal n k i) out out' l g P z = let e : (Read.numbers_of l.answer).number ≡ n = ap (λ (t : Numbers). t.number) P.answer_is in absurd (omega arith)
-plan_lines_lem (Paper.plan p) out out' l g P z = (P.length_is, P.room_is)
+-- the lines of a listing
+plan_lines_lem : (a : Paper.Answer) (out out' : List ℕ) (n : ℕ) → Promised a out (Ok n) out' → (n ≡ length (answer_lines a)) × (out' ≡ laid out 0 (answer_lines a))
+plan_lines_lem (Paper.refusal m k i) out out' n P = unequal (cc (P.result_is))
+plan_lines_lem (Paper.plan p) out out' n P = (cc (P.result_is), P.room_is)
 
 -- the lines of a refusal
-refusal_lines_lem : (a : Paper.Answer) (out out' : List ℕ) (l : Listed) → Promised a out l out' → ((Read.numbers_of l.answer).number ≡ 0 → ⊥)
-    → (refusal_lines (Read.numbers_of l.answer).number (Read.numbers_of l.answer).page (Read.numbers_of l.answer).place ≡ answer_lines a) × (out' ≡ out)
-refusal_lines_lem (Paper.refusal n k i) out out' l P h = (ap (λ (t : Numbers). refusal_lines t.number t.page t.place) P.answer_is, P.room_is)
-refusal_lines_lem (Paper.plan p) out out' l P h = absurd (h (ap (λ (t : Numbers). t.number) P.answer_is))
+refusal_lines_lem : (a : Paper.Answer) (out out' : List ℕ) (e : Refused) → Promised a out (Err e) out' → (refusal_lines e.number e.page e.place ≡ answer_lines a) × (out' ≡ out)
+refusal_lines_lem (Paper.refusal n k i) out out' e P = let q : e ≡ refused_with n k i = cc (P.result_is) in (ap (λ (x : Refused). refusal_lines x.number x.page x.place) q, P.room_is)
+refusal_lines_lem (Paper.plan p) out out' e P = unequal (cc (P.result_is))
 
-module _ (out input ss ns out' : List ℕ) (l : Listed) (room : leb listing_room (length out) ≡ true) (handed_in : read_at true input ss ns ≡ read (parted (take 12609 input)))
-    (P : Promised (answered out input ss ns) out l out') where
+module _ (out input ss ns out' : List ℕ) (room : leb listing_room (length out) ≡ true) (handed_in : read_at true input ss ns ≡ read (parted (take 12609 input))) where
   abbrev answer : Paper.Answer
   answer = read (parted (take 12609 input))
 
-  listed_as : Promised answer out l out'
-  listed_as = subst (λ (a : Paper.Answer). Promised a out l out') (list_call_lem out input ss ns (leb-true listing_room (length out) room) ∙ handed_in) P
+  listed_as : (l : Result ℕ Refused) → Promised (answered out input ss ns) out l out' → Promised answer out l out'
+  listed_as l P = subst (λ (a : Paper.Answer). Promised a out l out') (list_call_lem out input ss ns (leb-true listing_room (length out) room) ∙ handed_in) P
 
   answer_is : list_answer out input ≡ prints (answer_lines answer)
   unfolding list_answer planlist
   answer_is = rw room
 
   -- a listing
-  pub plan_printed : (Read.numbers_of l.answer).number ≡ 0 → Prints (list_answer out input) out (Bytes l.length) out'
-  plan_printed z = bytes_printed (answer_lines answer) out answer_is l.length out' (plan_lines_lem answer out out' l (read_numbered (parted (take 12609 input))) listed_as z)
+  pub plan_printed : (n : ℕ) → Promised (answered out input ss ns) out (Ok n) out' → Prints (list_answer out input) out (Some n) out'
+  plan_printed n P = bytes_printed (answer_lines answer) out answer_is n out' (plan_lines_lem answer out out' n (listed_as (Ok n) P))
 
-  module _ (number page place : ℕ) (u : number ≡ (Read.numbers_of l.answer).number) (v : page ≡ (Read.numbers_of l.answer).page) (w : place ≡ (Read.numbers_of l.answer).place) (h : number ≡ 0 → ⊥) where
-    lines : (refusal_lines number page place ≡ answer_lines answer) × (out' ≡ out)
-    lines = rw (u, v, w) (refusal_lines_lem answer out out' l listed_as (λ z. h (u ∙ z)))
+  module _ (e : Refused) (P : Promised (answered out input ss ns) out (Err e) out') where
+    lines : (refusal_lines e.number e.page e.place ≡ answer_lines answer) × (out' ≡ out)
+    lines = refusal_lines_lem answer out out' e (listed_as (Err e) P)
 
     -- the refusal's lines fit
-    pub refusal_fits : length (refusal_lines number page place) ≤ length out'
+    pub refusal_fits : length (refusal_lines e.number e.page e.place) ≤ length out'
     refusal_fits = let (a, b) = lines in rw (a, b) (omega (arith, leb-true listing_room (length out) room, answer_fits (parted (take 12609 input))))
 
     -- a refusal
-    pub refusal_printed : (n : ℕ) (out'' : List ℕ) → (n ≡ length (refusal_lines number page place)) × (out'' ≡ laid out' 0 (refusal_lines number page place)) → Prints (list_answer out input) out (Bytes n) out''
+    pub refusal_printed : (n : ℕ) (out'' : List ℕ) → (n ≡ length (refusal_lines e.number e.page e.place)) × (out'' ≡ laid out' 0 (refusal_lines e.number e.page e.place)) → Prints (list_answer out input) out (Some n) out''
     refusal_printed n out'' (x, y) = let (a, b) = lines in bytes_printed (answer_lines answer) out answer_is n out'' (x ∙ ap length a, y ∙ rw (a, b))

@@ -8,6 +8,7 @@ use native.Mathlib.Omega.{arith}
 use lib.Dec.{leb}
 use lib.ListN.{length, drop, replicate, length-replicate}
 use borrow.Author.Tests.{leb-true, le-leb, lt-leb}
+use Rattle.std.specs.Prelude.{Result, Ok, Err}
 use Rattle.paper.specs.Lists.{if}
 use Rattle.paper.specs.Plan as Said
 use Rattle.paper.specs.Reading as Paper
@@ -23,14 +24,15 @@ use Rattle.paper.proofs.Rooms.{rooms}
 use Rattle.room.specs.Laid.{laid}
 use Rattle.plan.specs.Numbers.{rows_lent, show_plan, head_in_text, fit_rows, plan_rows}
 use Rattle.plan.proofs.Shown.{sound_back}
-use Rattle.reader.specs.Answers.{numbers_of, told}
+use Rattle.plan.specs.declared.Plan as Code
+use Rattle.reader.specs.Answers as Reader
+use Rattle.reader.specs.Answers.{told}
 use Rattle.reader.specs.Promise as Reads
-use Rattle.reader.specs.declared.answer.Answer.{Answer}
-use Rattle.reader.specs.declared.answer.Answer.TheVariants as Code
-use Rattle.reader.specs.declared.reading.Reading.{Reading}
+use Rattle.reader.specs.declared.answer.Refusal.{Refusal}
 use Rattle.listing.proofs.Whole.{read_asked}
-use Rattle.tollgilt.specs.Promise.{Promised, Handed, answered, length_told, room_after}
-use Rattle.tollgilt.specs.declared.list.Listed.{Listed}
+use Rattle.tollgilt.specs.Refused.{refused_with, refused, numbers_of}
+use Rattle.tollgilt.specs.Promise.{Promised, Handed, answered, given, length_told, room_after}
+use Rattle.tollgilt.specs.declared.refused.Refused.{Refused}
 
 -- ---- a refusal has a number
 
@@ -95,7 +97,7 @@ pages_decide b ss ns =
     ap (λ (x : Bool). read_at x b ss ns) enough
 
 -- what reading promises for the call it promises for the answer to its pages
-pub read_here : (b ss ns rows text : List ℕ) (r : Reading) (a : Paper.Answer) → a ≡ read_at true b ss ns
+pub read_here : (b ss ns rows text : List ℕ) (r : Result Code.Plan Refusal) (a : Paper.Answer) → a ≡ read_at true b ss ns
     → Reads.Promised (Reads.answered rows₀ text₀ b ss ns) rows₀ text₀ r rows text → Reads.Promised a rows₀ text₀ r rows text
 read_here b ss ns rows text r a e R = subst (λ (x : Paper.Answer). Reads.Promised x rows₀ text₀ r rows text) (pages_decide b ss ns ∙ sym e) R
 
@@ -106,23 +108,18 @@ list_call_lem out b ss ns h = ap (λ (x : Bool). read_at x b ss ns) (le-leb list
 
 -- ---- what is promised
 
--- the result of an answer and a length
-abbrev pub result : Answer → ℕ → Listed
-result a n = record { answer = a; length = n }
-
--- too little room
-pub nothing_read : (a : Paper.Answer) (out : List ℕ) → a ≡ Paper.refusal 1 0 0 → Promised a out (result Code.NoRoom 0) out
-nothing_read a out e = rw e (record { answer_is = refl; length_is = refl; room_is = refl })
+-- a refusal, whatever refused
+pub refuses : (a : Paper.Answer) (out : List ℕ) (n k i : ℕ) → a ≡ Paper.refusal n k i → Promised a out (Err (refused_with n k i)) out
+refuses a out n k i e = rw e (record { result_is = refl; room_is = refl })
 
 -- reading gave a plan: its numbers are what the listing asks for, and show that plan
-pub record Listable (a : Paper.Answer) (r : Reading) (rows text out : List ℕ) : Type 0 where
+pub record Listable (a : Paper.Answer) (q : Code.Plan) (rows text out : List ℕ) : Type 0 where
   pub plan : Said.Plan
   pub is_plan_lem : a ≡ Paper.plan plan
-  pub answer_is : r.answer ≡ Code.Plan
-  pub shows : show_plan text r.plan rows ≡ plan
+  pub shows : show_plan text q rows ≡ plan
   pub fits : length (listing plan) ≤ 25200
-  pub asked : (r.plan.rows * 48 ≤ length rows) × (head_in_text text r.plan ≡ true) × (fit_rows text r.plan.rows rows ≡ true)
-      × (length (listing (show_plan text r.plan rows)) ≤ length out)
+  pub asked : (q.rows * 48 ≤ length rows) × (head_in_text text q ≡ true) × (fit_rows text q.rows rows ≡ true)
+      × (length (listing (show_plan text q rows)) ≤ length out)
 
 -- what is known of the plan that a call gives
 abbrev Given : Paper.Answer → Type 0
@@ -136,56 +133,67 @@ call_given room b ss ns = at (read_at room b ss ns) refl (call_numbered room b s
     at (Paper.refusal n k i) e h = h.0
     at (Paper.plan p) e h = let q = call_plan room b ss ns p e in ((read_sound (pages_at b ss ns) p q).0, (rooms (pages_at b ss ns) p q).listing_fits)
 
-given_listable : (a : Paper.Answer) (out rows text : List ℕ) (r : Reading) → Given a → Reads.Promised a rows₀ text₀ r rows text
-    → (numbers_of r.answer).number ≡ 0 → 25200 ≤ length out → Listable a r rows text out
-given_listable (Paper.refusal n k i) out rows text r g R z h = let e : (numbers_of r.answer).number ≡ n = ap (λ (t : Numbers). t.number) R.answer_is in absurd (omega arith)
-given_listable (Paper.plan p) out rows text r g R z h =
+given_listable : (a : Paper.Answer) (out rows text : List ℕ) (q : Code.Plan) → Given a → Reads.Reads a q rows₀ text₀ rows text → 25200 ≤ length out → Listable a q rows text out
+given_listable a out rows text q g R h =
+    let p = R.plan in
     let more : List ℕ = drop (0 + length (plan_rows p)) rows₀ in
     let rest : List ℕ = drop (0 + length (text_of p)) text₀ in
+    let (s, l) = subst Given R.answer_is g in
     record {
       plan = p;
-      is_plan_lem = refl;
-      answer_is = R.answer_is;
-      shows = rw (R.plan_is, R.rows_are, R.text_is) (sound_back p rest more g.0);
-      fits = g.1;
-      asked = rw (R.plan_is, R.rows_are, R.text_is) (read_asked p rest more out g.0 (omega (arith, g.1)));
+      is_plan_lem = R.answer_is;
+      shows = rw (R.plan_is, R.rows_are, R.text_is) (sound_back p rest more s);
+      fits = l;
+      asked = rw (R.plan_is, R.rows_are, R.text_is) (read_asked p rest more out s (omega (arith, l)));
     }
 
 -- what reading gives for a call with room enough
-module _ (out b ss ns : List ℕ) (h : 25200 ≤ length out) (rows text : List ℕ) (r : Reading) (R : Reads.Promised (Reads.answered rows₀ text₀ b ss ns) rows₀ text₀ r rows text) where
-  read_as : Reads.Promised (answered out b ss ns) rows₀ text₀ r rows text
-  read_as = read_here b ss ns rows text r (answered out b ss ns) (list_call_lem out b ss ns h) R
+module _ (out b ss ns : List ℕ) (h : 25200 ≤ length out) (rows text : List ℕ) where
+  read_as : (r : Result Code.Plan Refusal) → Reads.Promised (Reads.answered rows₀ text₀ b ss ns) rows₀ text₀ r rows text → Reads.Promised (answered out b ss ns) rows₀ text₀ r rows text
+  read_as r R = read_here b ss ns rows text r (answered out b ss ns) (list_call_lem out b ss ns h) R
 
   -- reading refused the pages
-  pub nothing_listed : ((numbers_of r.answer).number ≡ 0 → ⊥) → Promised (answered out b ss ns) out (result r.answer 0) out
-  nothing_listed z = at (answered out b ss ns) read_as
-    where
-      at : (a : Paper.Answer) → Reads.Promised a rows₀ text₀ r rows text → Promised a out (result r.answer 0) out
-      at (Paper.refusal n k i) T = record { answer_is = T.answer_is; length_is = refl; room_is = refl }
-      at (Paper.plan p) T = absurd (z (ap (λ (c : Answer). (numbers_of c).number) T.answer_is))
+  pub nothing_listed : (x : Refusal) → Reads.Refuses (Reads.answered rows₀ text₀ b ss ns) x rows₀ text₀ rows text → Promised (answered out b ss ns) out (Err (refused (Reader.numbers_of x))) out
+  nothing_listed x R = refuses (answered out b ss ns) out _ _ _ (read_as (Err x) R).answer_is
 
   -- reading gave a plan
-  pub listable : (numbers_of r.answer).number ≡ 0 → Listable (answered out b ss ns) r rows text out
+  pub listable : (q : Code.Plan) → Reads.Reads (Reads.answered rows₀ text₀ b ss ns) q rows₀ text₀ rows text → Listable (answered out b ss ns) q rows text out
   unfolding list_call
-  listable z = given_listable (answered out b ss ns) out rows text r (call_given (leb listing_room (length out)) b ss ns) read_as z h
+  listable q R = given_listable (answered out b ss ns) out rows text q (call_given (leb listing_room (length out)) b ss ns) (read_as (Ok q) R) h
 
 -- the listing is as long as the room at most
-pub listed_short : {a : Paper.Answer} {r : Reading} {rows text out : List ℕ} → Listable a r rows text out → length (listing (show_plan text r.plan rows)) ≤ 25200
+pub listed_short : {a : Paper.Answer} {q : Code.Plan} {rows text out : List ℕ} → Listable a q rows text out → length (listing (show_plan text q rows)) ≤ 25200
 listed_short L = subst (λ (p : Said.Plan). length (listing p) ≤ 25200) (sym L.shows) L.fits
 
 -- the plan is listed
-pub listed : {a : Paper.Answer} {r : Reading} {rows text out : List ℕ} → Listable a r rows text out → (n : ℕ) (out' : List ℕ)
-    → (n ≡ length (listing (show_plan text r.plan rows))) × (out' ≡ laid out 0 (listing (show_plan text r.plan rows))) → Promised a out (result r.answer n) out'
-listed {a} {r} {rows} {text} {out} L n out' w =
+pub listed : {a : Paper.Answer} {q : Code.Plan} {rows text out : List ℕ} → Listable a q rows text out → (n : ℕ) (out' : List ℕ)
+    → (n ≡ length (listing (show_plan text q rows))) × (out' ≡ laid out 0 (listing (show_plan text q rows))) → Promised a out (Ok n) out'
+listed {a} {q} {rows} {text} {out} L n out' w =
     record {
-      answer_is = ap numbers_of L.answer_is ∙ sym (ap told L.is_plan_lem);
-      length_is = w.0 ∙ (ap (λ (p : Said.Plan). length (listing p)) L.shows ∙ sym (ap length_told L.is_plan_lem));
+      result_is = ap Ok (w.0 ∙ ap (λ (p : Said.Plan). length (listing p)) L.shows) ∙ sym (ap given L.is_plan_lem);
       room_is = w.1 ∙ (ap (λ (p : Said.Plan). laid out 0 (listing p)) L.shows ∙ sym (ap (λ (x : Paper.Answer). room_after x out) L.is_plan_lem));
     }
 
 -- ---- the border
 
--- what is handed out are the numbers of the answer
-pub handed : (a : Paper.Answer) (out out' : List ℕ) (l : Listed) (n k i : ℕ) → Promised a out l out' → n ≡ (numbers_of l.answer).number → k ≡ (numbers_of l.answer).page → i ≡ (numbers_of l.answer).place
-    → Handed a out n out' (l.length ∷ k ∷ i ∷ [])
-handed a out out' l n k i P x y z = rw (x, y, z, P.answer_is) (record { number_is = refl; told_is = ap (λ (m : ℕ). m ∷ (told a).page ∷ (told a).place ∷ []) P.length_is; room_is = P.room_is })
+-- what is handed out of a result: the length of the listing, and the refusal's page and place
+abbrev pub told_of : Result ℕ Refused → List ℕ
+told_of (Ok n) = n ∷ 0 ∷ 0 ∷ []
+told_of (Err e) = 0 ∷ e.page ∷ e.place ∷ []
+
+-- these are the numbers of the answer
+pub handed : (a : Paper.Answer) (out : List ℕ) (r : Result ℕ Refused) (out' : List ℕ) → Promised a out r out' → Handed a out (numbers_of r).number out' (told_of r)
+handed a out r out' P =
+    record {
+      number_is = ap (λ (x : Result ℕ Refused). (numbers_of x).number) P.result_is ∙ number a;
+      told_is = ap told_of P.result_is ∙ all a;
+      room_is = P.room_is;
+    }
+  where
+    number : (a : Paper.Answer) → (numbers_of (given a)).number ≡ (told a).number
+    number (Paper.refusal n k i) = refl
+    number (Paper.plan p) = refl
+
+    all : (a : Paper.Answer) → told_of (given a) ≡ length_told a ∷ (told a).page ∷ (told a).place ∷ []
+    all (Paper.refusal n k i) = refl
+    all (Paper.plan p) = refl

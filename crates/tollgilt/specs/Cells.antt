@@ -1,7 +1,7 @@
--- Cells: what asking for a printed cell promises for any call, inside (`Promised`) and at the border (`Handed`): the numbers that are given and the final state of
+-- Cells: what asking for a printed cell promises for any call, inside (`Promised`) and at the border (`Handed`): the result and the final state of
 -- the lent room, against what documents 01 and 02 say of the call.
 -- Assumes nothing.
-use Rattle.std.specs.Prelude.{◌≡◌, Bool, false, List, [], ◌∷◌, ℕ, length}
+use Rattle.std.specs.Prelude.{◌≡◌, Bool, List, [], ◌∷◌, ℕ, length, Result, Ok, Err}
 use Rattle.std.proofs.Math.Option.{Option, none, some}
 use Rattle.paper.specs.Lists.{if, is_empty}
 use Rattle.paper.specs.Reading as Paper
@@ -12,7 +12,9 @@ use Rattle.cell.specs.Numbered.{field_of}
 use Rattle.cell.specs.Answers.{source_number, text_of}
 use Rattle.cell.specs.declared.answer.Source.{Source}
 use Rattle.cell.specs.declared.answer.Source.TheVariants.{Plan, Catalogue, Neither}
+use Rattle.tollgilt.specs.Refused.{refused_with, numbers_of}
 use Rattle.tollgilt.specs.declared.cells.CellShown.{CellShown}
+use Rattle.tollgilt.specs.declared.refused.Refused.{Refused}
 
 -- ---- the documents' answer
 
@@ -44,26 +46,22 @@ answered out buffer starts lens catalogue row n i = cell_from (cell_call (length
 
 -- ---- the promise
 
--- the numbers of a refusal, which shows nothing
-abbrev pub refused_with : ℕ → ℕ → ℕ → CellShown
-refused_with n k i = record { number = n; page = k; place = i; source = 0; length = 0; more = false; omitted = 0; zero = false }
+-- what a cell shows, in numbers
+abbrev pub cell_with : Source → ℕ → Bool → ℕ → Bool → CellShown
+cell_with s l d o m = record { source = s; length = l; more = d; omitted = o; zero = m }
 
--- the numbers of a cell
-abbrev pub cell_with : ℕ → ℕ → Bool → ℕ → Bool → CellShown
-cell_with s l d o m = record { number = 0; page = 0; place = 0; source = s; length = l; more = d; omitted = o; zero = m }
-
--- the numbers of an answer
-abbrev pub given : Answer → CellShown
-given (refusal n k i) = refused_with n k i
-given (shows s t d o m) = cell_with (source_number s) (length t) d o m
+-- the result where the documents answer so: what the cell shows, or the refusal
+abbrev pub given : Answer → Result CellShown Refused
+given (refusal n k i) = Err (refused_with n k i)
+given (shows s t d o m) = Ok (cell_with s (length t) d o m)
 
 -- the room as handed back: a refusal changes no byte; else it begins with the cell's text, and behind that is as it was
 abbrev pub room_after : Answer → List ℕ → List ℕ
 room_after (refusal n k i) out = out
 room_after (shows s t d o m) out = laid out 0 t
 
--- what is promised where the documents answer so: of the room as lent, the numbers, and the room as handed back
-pub record Promised (a : Answer) (out : List ℕ) (r : CellShown) (out' : List ℕ) : Type 0 where
+-- what is promised where the documents answer so: of the room as lent, the result, and the room as handed back
+pub record Promised (a : Answer) (out : List ℕ) (r : Result CellShown Refused) (out' : List ℕ) : Type 0 where
   pub result_is : r ≡ given a
   pub room_is : out' ≡ room_after a out
 
@@ -71,9 +69,14 @@ pub record Promised (a : Answer) (out : List ℕ) (r : CellShown) (out' : List �
 abbrev pub flag_number : Bool → ℕ
 flag_number b = if b 1 0
 
--- the same at the border: r is the refusal's number, 0 for a cell; told are the length of the text, the refusal's page and place, the source, the flag, the mark, and
--- how much was left out
+-- what the border tells of a result: the length of the text, the refusal's page and place, the source's number, the flag, the mark, and how much was left out; for a
+-- refusal all but page and place are 0
+abbrev pub told_of : Result CellShown Refused → List ℕ
+told_of (Ok c) = c.length ∷ 0 ∷ 0 ∷ source_number c.source ∷ flag_number c.more ∷ flag_number c.zero ∷ c.omitted ∷ []
+told_of (Err e) = 0 ∷ e.page ∷ e.place ∷ 0 ∷ 0 ∷ 0 ∷ 0 ∷ []
+
+-- the same at the border: r is the refusal's number, 0 for a cell
 pub record Handed (a : Answer) (out : List ℕ) (r : ℕ) (out' told' : List ℕ) : Type 0 where
-  pub number_is : r ≡ (given a).number
-  pub told_is : told' ≡ (given a).length ∷ (given a).page ∷ (given a).place ∷ (given a).source ∷ flag_number (given a).more ∷ flag_number (given a).zero ∷ (given a).omitted ∷ []
+  pub number_is : r ≡ (numbers_of (given a)).number
+  pub told_is : told' ≡ told_of (given a)
   pub room_is : out' ≡ room_after a out

@@ -1,7 +1,7 @@
--- Printed: what the functions behind planlist, planfresh, planfind and plancell promise for any input (`Prints`): the answer and the final state of the lent room,
+-- Printed: what the functions behind planlist, planfresh, planfind and plancell promise for any input (`Prints`): how many bytes are printed and the final state of the lent room,
 -- against what is printed. For planlist document 01 says that, for the others this page.
 -- Assumes nothing.
-use Rattle.std.specs.Prelude.{◌≡◌, Bool, true, false, ◌&&◌, List, [], ◌∷◌, ◌++◌, ℕ, suc, ◌+◌, ◌*◌, ◌≤◌, leb, ltb, length, take, drop}
+use Rattle.std.specs.Prelude.{◌≡◌, Bool, true, false, ◌&&◌, List, [], ◌∷◌, ◌++◌, ℕ, suc, ◌+◌, ◌*◌, ◌≤◌, leb, ltb, length, take, drop, Option, Some, None}
 use Rattle.paper.specs.Lists.{bytes, if, every, number}
 use Rattle.paper.specs.Bytes.{is_digit}
 use Rattle.paper.specs.Calls.{row_room, page_room, listing_room, cell_room}
@@ -18,9 +18,6 @@ use Rattle.tollgilt.specs.Cells.{cell_from, flag_number}
 use Rattle.tollgilt.specs.Fresh as Fresh
 use Rattle.tollgilt.specs.Fresh.{pages, afresh}
 use Rattle.tollgilt.specs.declared.input.Question.{Question}
-use Rattle.tollgilt.specs.declared.input.Question.TheVariants.{None, Of}
-use Rattle.tollgilt.specs.declared.input.Printed.{Printed}
-use Rattle.tollgilt.specs.declared.input.Printed.TheVariants.{Bytes, NoRoom}
 
 -- ---- what planfresh prints
 
@@ -69,9 +66,9 @@ pub record AsksFor (s : List ℕ) (n at : ℕ) : Type 0 where
   pub inside : at ≤ length s
 
 -- what the input asks for is told so
-abbrev pub Asks : List ℕ → Question → Type 0
+abbrev pub Asks : List ℕ → Option Question → Type 0
 Asks s None = asks s ≡ false
-Asks s (Of n at) = AsksFor s n at
+Asks s (Some q) = AsksFor s q.number q.pages
 
 -- what is printed for an input that asks for a number, by what is printed for the number and for what stands behind it; an input that asks for none is refusal 1
 abbrev pub asked : (ℕ → List ℕ → List ℕ) → List ℕ → List ℕ
@@ -165,15 +162,15 @@ cell_answer out input = if (leb cell_lines_room (length out)) (prints (plancell 
 
 -- ---- the promise
 
--- the table of refusals: what each case carries; what is printed is 0, 0, 0
-abbrev pub numbers_of : Printed → Numbers
-numbers_of (Bytes n) = numbers 0 0 0
-numbers_of NoRoom = numbers 1 0 0
+-- the number, page and place of a result: no bytes are refusal 1, room too small; what is printed is 0, 0, 0
+abbrev pub numbers_of : Option ℕ → Numbers
+numbers_of (Some n) = numbers 0 0 0
+numbers_of None = numbers 1 0 0
 
--- how many bytes each case tells
-abbrev pub length_of : Printed → ℕ
-length_of (Bytes n) = n
-length_of NoRoom = 0
+-- how many bytes it tells
+abbrev pub length_of : Option ℕ → ℕ
+length_of (Some n) = n
+length_of None = 0
 
 -- the number, page and place that document 01's answer has
 abbrev pub told : Answer → Numbers
@@ -190,8 +187,8 @@ abbrev pub room_after : Answer → List ℕ → List ℕ
 room_after (refusal n k i) out = out
 room_after (prints w) out = laid out 0 w
 
--- what is promised where document 01 answers so: of the room as lent, the answer, and the room as handed back
-pub record Prints (a : Answer) (out : List ℕ) (r : Printed) (out' : List ℕ) : Type 0 where
+-- what is promised where document 01 answers so: of the room as lent, the result, and the room as handed back
+pub record Prints (a : Answer) (out : List ℕ) (r : Option ℕ) (out' : List ℕ) : Type 0 where
   pub answer_is : numbers_of r ≡ told a
   pub length_is : length_of r ≡ length_told a
   pub room_is : out' ≡ room_after a out

@@ -5,11 +5,10 @@ ghost use Rattle.tollgilt.specs.Find as Find;
 ghost use Rattle.tollgilt.specs.Fresh as Fresh;
 ghost use Rattle.tollgilt.specs.Promise.{Handed, answered};
 
-use crate::cells::{cell_pages, flag_number};
+use crate::cells::cell_pages;
 use crate::find::find_pages;
 use crate::fresh::fresh_pages;
 use crate::list::list_pages;
-use reader::answer::{refusal_number, refusal_page, refusal_place};
 
 // Lists the pages of a call into `out`, as `list_pages` does. Returns the number of the refusal, 0 for a listing. Tells the length of the listing, and the
 // page and the place of the refusal: the length is 0 for a refusal, page and place are 0 for a listing.
@@ -22,12 +21,16 @@ pub fn tollgilt_list<'a>(
 ) -> u32
     ensures { Handed (answered out.old buffer.now starts.now lens.now) out.old result out.new told.new }
 {
-    let listed = list_pages(buffer, starts, lens, out);
-    let answer = listed.answer;
-    let page = refusal_page(answer);
-    let place = refusal_place(answer);
-    *told = [listed.length, page, place];
-    refusal_number(answer)
+    match list_pages(buffer, starts, lens, out) {
+        Ok(length) => {
+            *told = [length, 0, 0];
+            0
+        }
+        Err(e) => {
+            *told = [0, e.page, e.place];
+            e.number
+        }
+    }
 }
 
 // Writes the plan of a call's pages as fresh pages into `out`, as `fresh_pages` does. Returns the number of the refusal, 0 for pages. Tells the number of pages,
@@ -42,23 +45,19 @@ pub fn tollgilt_fresh<'a>(
 ) -> u32
     ensures { Fresh.Handed (Fresh.answered out.old buffer.now starts.now lens.now) out.old result out.new told.new }
 {
-    let fresh = fresh_pages(buffer, starts, lens, out);
-    let l = fresh.lens;
-    *told = [
-        fresh.pages,
-        fresh.page,
-        fresh.place,
-        l[0],
-        l[1],
-        l[2],
-        l[3],
-        l[4],
-        l[5],
-        l[6],
-        l[7],
-        l[8],
-    ];
-    fresh.number
+    match fresh_pages(buffer, starts, lens, out) {
+        Ok(p) => {
+            let l = p.lens;
+            *told = [
+                p.count, 0, 0, l[0], l[1], l[2], l[3], l[4], l[5], l[6], l[7], l[8],
+            ];
+            0
+        }
+        Err(e) => {
+            *told = [0, e.page, e.place, 0, 0, 0, 0, 0, 0, 0, 0, 0];
+            e.number
+        }
+    }
 }
 
 // Finds the rows of a call's plan that hold a package number, as `find_pages` does. Returns the number of the refusal, 0 for a plan. Tells how many rows hold the
@@ -73,12 +72,16 @@ pub fn tollgilt_find<'a>(
 ) -> u32
     ensures { Find.Handed (Find.answered list.old buffer.now starts.now lens.now) number list.old result list.new told.new }
 {
-    let found = find_pages(buffer, starts, lens, number, list);
-    let answer = found.answer;
-    let page = refusal_page(answer);
-    let place = refusal_place(answer);
-    *told = [found.rows, page, place];
-    refusal_number(answer)
+    match find_pages(buffer, starts, lens, number, list) {
+        Ok(rows) => {
+            *told = [rows, 0, 0];
+            0
+        }
+        Err(x) => {
+            *told = [0, x.page, x.place];
+            x.number
+        }
+    }
 }
 
 // Lays the text of a printed cell of a call's plan into `out`, as `cell_pages` does. Returns the number of the refusal, 0 for a cell. Tells the length of the text,
@@ -97,17 +100,23 @@ pub fn tollgilt_cell<'a>(
 ) -> u32
     ensures { Cells.Handed (Cells.answered out.old buffer.now starts.now lens.now catalogue.now row field which) out.old result out.new told.new }
 {
-    let shown = cell_pages(buffer, starts, lens, catalogue, row, field, which, out);
-    let more = flag_number(shown.more);
-    let zero = flag_number(shown.zero);
-    *told = [
-        shown.length,
-        shown.page as usize,
-        shown.place as usize,
-        shown.source as usize,
-        more as usize,
-        zero as usize,
-        shown.omitted,
-    ];
-    shown.number
+    match cell_pages(buffer, starts, lens, catalogue, row, field, which, out) {
+        Ok(c) => {
+            let source = c.source.number() as usize;
+            *told = [
+                c.length,
+                0,
+                0,
+                source,
+                c.more as usize,
+                c.zero as usize,
+                c.omitted,
+            ];
+            0
+        }
+        Err(e) => {
+            *told = [0, e.page as usize, e.place as usize, 0, 0, 0, 0];
+            e.number
+        }
+    }
 }

@@ -4,14 +4,15 @@ ghost use Rattle.paper.specs.Calls.{read_at};
 ghost use Rattle.paper.specs.Lists.{bytes};
 ghost use Rattle.paper.specs.Listing.{line, numeral, print, parted};
 ghost use Rattle.paper.specs.Reading.{read};
+ghost use Rattle.cell.specs.Answers.{source_number};
 ghost use Rattle.room.specs.Laid.{laid};
 ghost use Rattle.room.specs.Written.{Wrote};
 ghost use Rattle.tollgilt.specs.Fresh.{bytes_told, pages_in};
-ghost use Rattle.tollgilt.specs.Printed.{separated, held_lines, found_in, asked, shown_lines, cell_printed, cell_behind, Asks, list_answer, fresh_answer, find_answer, cell_answer, length_of, Prints};
+ghost use Rattle.tollgilt.specs.Printed.{separated, held_lines, found_in, asked, shown_lines, cell_printed, cell_behind, Asks, list_answer, fresh_answer, find_answer, cell_answer, Prints};
 
-use crate::cells::{CellShown, cell_pages, flag_number};
+use crate::cells::{CellShown, cell_pages};
 use crate::find::find_pages;
-use crate::fresh::{Fresh, fresh_pages};
+use crate::fresh::fresh_pages;
 use crate::list::list_pages;
 use cell::Cell;
 use fields::numbers::shown;
@@ -21,8 +22,8 @@ use listing::pages::{next_page, split_pages};
 use listing::refusals::list_refusal;
 use plan::Plan;
 use plan::rooms::listing_fits;
-use reader::answer::{refusal_number, refusal_page, refusal_place};
 use room::lay;
+use writer::writing::Pages;
 
 // The most bytes of an input that count.
 pub const INPUT: usize = 12609;
@@ -46,25 +47,6 @@ pub const CELL_ASKING: usize = 28 + CATALOGUE + INPUT;
 // The room for the lines `source=2`, `cut=1`, `left=1000` and `zero=1`, and for the longest text in its line.
 pub const CELL_LINES: usize = 38 + Cell::SUBSTANCE;
 
-// What is printed for an input.
-#[derive(Clone, Copy)]
-pub enum Printed {
-    // So many bytes, at the beginning of the lent room.
-    Bytes(usize),
-    // Nothing: the lent room is too small.
-    NoRoom,
-}
-
-// How many bytes are printed.
-pub fn printed_len(a: Printed) -> usize
-    ensures { result ≡ length_of a }
-{
-    match a {
-        Printed::Bytes(n) => n,
-        Printed::NoRoom => 0,
-    }
-}
-
 // The pages of an input, as they are handed in: how many there are, where they begin, and how long they are. Of more than ten, the first ten.
 #[derive(Clone, Copy)]
 pub struct Parts {
@@ -77,10 +59,7 @@ pub struct Parts {
 fn counted(input: &[u8]) -> usize
     ensures { (result ≤ length input.now) × (take result input.now ≡ take 12609 input.now) }
 {
-    if input.len() > INPUT {
-        return INPUT;
-    }
-    input.len()
+    input.len().min(INPUT)
 }
 
 // The pages of what counts of an input. Handed in, they are read as document 01 says of the input.
@@ -94,109 +73,83 @@ fn split(input: &[u8]) -> Parts
     let k = split_pages(&input[..n], &mut starts, &mut lens);
     Parts {
         pages: k,
-        starts: starts,
-        lens: lens,
+        starts,
+        lens,
     }
 }
 
 // What planlist prints for its input: the listing of the pages that the input holds, or the three lines of their refusal. It is laid at the beginning of `out`.
 // Pages are separated by one zero byte, and only the first 12,609 bytes count. A room of less than 25,200 bytes is refusal 1, and stays as it was.
-pub fn list_input(input: &[u8], out: &mut [u8]) -> Printed
+pub fn list_input(input: &[u8], out: &mut [u8]) -> Option<usize>
     ensures { Prints (list_answer out.old input.now) out.old result out.new }
 {
     if !listing_fits(out.len()) {
-        return Printed::NoRoom;
+        return None;
     }
     let parts = split(input);
     let k = parts.pages;
-    let starts = parts.starts;
-    let lens = parts.lens;
-    let listed = list_pages(input, &starts[..k], &lens[..k], out);
-    let answer = listed.answer;
-    let number = refusal_number(answer);
-    if number == 0 {
-        let told = listed.length as usize;
-        return Printed::Bytes(told);
+    match list_pages(input, &parts.starts[..k], &parts.lens[..k], out) {
+        Ok(length) => Some(length as usize),
+        Err(e) => Some(list_refusal(e.number, e.page, e.place, out)),
     }
-    let length = list_refusal(number, refusal_page(answer), refusal_place(answer), out);
-    Printed::Bytes(length)
 }
 
 // Lays the pages that were written into a room into `out`, separated by one zero byte, and returns how many bytes that is. All other bytes of `out` stay.
-fn join_pages(fresh: Fresh, room: &[u8], out: &mut [u8]) -> usize
-    requires { (1 ≤ fresh.pages) × (fresh.pages ≤ 9) × (bytes_told fresh ≤ length room.now)
-        × (bytes_told fresh + fresh.pages ≤ length out.old + 1) }
+fn join_pages(fresh: Pages, room: &[u8], out: &mut [u8]) -> usize
+    requires { (1 ≤ fresh.count) × (fresh.count ≤ 9) × (bytes_told fresh ≤ length room.now)
+        × (bytes_told fresh + fresh.count ≤ length out.old + 1) }
     ensures { (result ≡ length (separated (pages_in fresh room.now)))
         × (out.new ≡ laid out.old 0 (separated (pages_in fresh room.now))) }
 {
-    let count = fresh.pages as usize;
+    let count = fresh.count as usize;
     let lens = fresh.lens;
     let mut at = lens[0] as usize;
     let mut n = lay(out, 0, &room[..at]);
-    let mut k = 1;
-    while k < count {
+    for k in 1..count {
         let end = at + lens[k] as usize;
         out[n] = 0;
         n = lay(out, n + 1, &room[at..end]);
         at = end;
-        k += 1;
     }
     n
 }
 
 // What planfresh prints for its input: the fresh pages of the pages that the input holds, separated by one zero byte, or the three lines of the refusal. It is
 // laid at the beginning of `out`. The input is parted as planlist's. A room of less than 12,608 bytes is refusal 1, and stays as it was.
-pub fn fresh_input(input: &[u8], out: &mut [u8]) -> Printed
+pub fn fresh_input(input: &[u8], out: &mut [u8]) -> Option<usize>
     ensures { Prints (fresh_answer out.old input.now) out.old result out.new }
 {
     if out.len() < SEPARATED {
-        return Printed::NoRoom;
+        return None;
     }
     let parts = split(input);
     let k = parts.pages;
-    let starts = parts.starts;
-    let lens = parts.lens;
     let mut room = [0u8; Plan::PAGES];
-    let fresh = fresh_pages(input, &starts[..k], &lens[..k], &mut room);
-    let number = fresh.number;
-    if number == 0 {
-        let length = join_pages(fresh, &room, out);
-        return Printed::Bytes(length);
+    match fresh_pages(input, &parts.starts[..k], &parts.lens[..k], &mut room) {
+        Ok(fresh) => Some(join_pages(fresh, &room, out)),
+        Err(e) => Some(list_refusal(e.number, e.page, e.place, out)),
     }
-    let length = list_refusal(number, fresh.page, fresh.place, out);
-    Printed::Bytes(length)
 }
 
-// What an input asks for.
-#[derive(Clone, Copy)]
-pub enum Question {
-    // No number: there is no zero byte, or not one to eight digits before the first.
-    None,
-    // That number; what stands behind it begins at the place.
-    Of { number: u32, pages: usize },
+// What an input asks for: a number, and where in the input that begins which stands behind it.
+#[derive(Clone, Copy, PartialEq, Eq)]
+pub struct Question {
+    pub number: u32,
+    pub pages: usize,
 }
 
-// The number that an input asks for: one to eight digits before its first zero byte.
-fn asked_for(input: &[u8]) -> Question
+// The number that an input asks for: one to eight digits before its first zero byte. None where there is no zero byte, or not one to eight digits before the first.
+fn asked_for(input: &[u8]) -> Option<Question>
     ensures { Asks input.now result }
 {
     let end = next_page(input, 0);
-    if end >= input.len() {
-        return Question::None;
+    if end >= input.len() || end < 1 || end > 8 || !all_in(&input[..end], 0, DIGIT) {
+        return None;
     }
-    if end < 1 {
-        return Question::None;
-    }
-    if end > 8 {
-        return Question::None;
-    }
-    if !all_in(&input[..end], 0, DIGIT) {
-        return Question::None;
-    }
-    Question::Of {
+    Some(Question {
         number: shown(input, 0, end),
         pages: end + 1,
-    }
+    })
 }
 
 // Writes the line of a row that holds the number, and returns the place behind it.
@@ -213,11 +166,8 @@ fn held_lines(list: &[u32], count: u32, out: &mut [u8]) -> usize
     ensures { (result ≡ length (held_lines (take count list.now))) × (out.new ≡ laid out.old 0 (held_lines (take count list.now))) }
 {
     let mut a = count_line(out, 0, b"held", count);
-    let n = count as usize;
-    let mut i = 0;
-    while i < n {
-        a = row_line(out, a, list[i]);
-        i += 1;
+    for row in &list[..count as usize] {
+        a = row_line(out, a, *row);
     }
     a
 }
@@ -230,55 +180,45 @@ fn found_in(number: u32, input: &[u8], out: &mut [u8]) -> usize
 {
     let parts = split(input);
     let k = parts.pages;
-    let starts = parts.starts;
-    let lens = parts.lens;
     let mut list = [0u32; Plan::ROWS];
-    let found = find_pages(input, &starts[..k], &lens[..k], number, &mut list);
-    let answer = found.answer;
-    let refusal = refusal_number(answer);
-    if refusal == 0 {
-        let count = found.rows;
-        return held_lines(&list, count, out);
+    match find_pages(
+        input,
+        &parts.starts[..k],
+        &parts.lens[..k],
+        number,
+        &mut list,
+    ) {
+        Ok(count) => held_lines(&list, count, out),
+        Err(e) => list_refusal(e.number, e.page, e.place, out),
     }
-    list_refusal(refusal, refusal_page(answer), refusal_place(answer), out)
 }
 
 // What planfind prints for its input: how many rows hold the package number that the input asks for, and which, or the three lines of a refusal. It is laid at the
 // beginning of `out`. The input is the number, a zero byte, and pages as planlist takes them; one that asks for no number is refusal 1. A room of less than 2,057
 // bytes is refusal 1, and stays as it was.
-pub fn find_input(input: &[u8], out: &mut [u8]) -> Printed
+pub fn find_input(input: &[u8], out: &mut [u8]) -> Option<usize>
     ensures { Prints (find_answer out.old input.now) out.old result out.new }
 {
     if out.len() < FOUND {
-        return Printed::NoRoom;
+        return None;
     }
-    let asked = asked_for(input);
-    match asked {
-        Question::None => {
-            let length = list_refusal(1, 0, 0, out);
-            Printed::Bytes(length)
-        }
-        Question::Of { number, pages } => {
-            let length = found_in(number, &input[pages..], out);
-            Printed::Bytes(length)
-        }
+    match asked_for(input) {
+        None => Some(list_refusal(1, 0, 0, out)),
+        Some(q) => Some(found_in(q.number, &input[q.pages..], out)),
     }
 }
 
 // Prints what a cell shows into `out`: its four numbers, and its text, which a room begins with. Returns how many bytes that is. All other bytes stay.
 fn cell_lines(shown: CellShown, room: &[u8], out: &mut [u8]) -> usize
     requires { (shown.length ≤ length room.now) × (shown.omitted ≤ 1000)
-        × (length (shown_lines shown.source shown.more shown.omitted shown.zero (take shown.length room.now)) ≤ length out.old) }
-    ensures { (result ≡ length (shown_lines shown.source shown.more shown.omitted shown.zero (take shown.length room.now)))
-        × (out.new ≡ laid out.old 0 (shown_lines shown.source shown.more shown.omitted shown.zero (take shown.length room.now))) }
+        × (length (shown_lines (source_number shown.source) shown.more shown.omitted shown.zero (take shown.length room.now)) ≤ length out.old) }
+    ensures { (result ≡ length (shown_lines (source_number shown.source) shown.more shown.omitted shown.zero (take shown.length room.now)))
+        × (out.new ≡ laid out.old 0 (shown_lines (source_number shown.source) shown.more shown.omitted shown.zero (take shown.length room.now))) }
 {
-    let more = flag_number(shown.more);
-    let zero = flag_number(shown.zero);
-    let left = shown.omitted as u32;
-    let a = count_line(out, 0, b"source", shown.source);
-    let b = count_line(out, a, b"cut", more);
-    let c = count_line(out, b, b"left", left);
-    let d = count_line(out, c, b"zero", zero);
+    let a = count_line(out, 0, b"source", shown.source.number());
+    let b = count_line(out, a, b"cut", shown.more as u32);
+    let c = count_line(out, b, b"left", shown.omitted as u32);
+    let d = count_line(out, c, b"zero", shown.zero as u32);
     text_line(out, d, b"text", &room[..shown.length])
 }
 
@@ -297,26 +237,21 @@ fn printed_cell<'a>(
 {
     let parts = split(input);
     let k = parts.pages;
-    let starts = parts.starts;
-    let lens = parts.lens;
-    let line = row as usize;
-    let third = which as usize;
     let mut room = [0u8; Cell::SUBSTANCE];
     let shown = cell_pages(
         input,
-        &starts[..k],
-        &lens[..k],
+        &parts.starts[..k],
+        &parts.lens[..k],
         catalogue,
-        line,
+        row as usize,
         field,
-        third,
+        which as usize,
         &mut room,
     );
-    let refusal = shown.number;
-    if refusal == 0 {
-        return cell_lines(shown, &room, out);
+    match shown {
+        Ok(c) => cell_lines(c, &room, out),
+        Err(e) => list_refusal(e.number, e.page, e.place, out),
     }
-    list_refusal(refusal, shown.page, shown.place, out)
 }
 
 // Prints a cell into `out`, where the catalogue's text, a zero byte and pages are left of the input. Returns how many bytes that is. All other bytes stay.
@@ -325,10 +260,7 @@ fn cell_behind(row: u32, field: u32, which: u32, input: &[u8], out: &mut [u8]) -
     ensures { (result ≡ length (cell_behind row field which input.now)) × (out.new ≡ laid out.old 0 (cell_behind row field which input.now)) }
 {
     let end = next_page(input, 0);
-    if end >= input.len() {
-        return list_refusal(1, 0, 0, out);
-    }
-    if end > CATALOGUE {
+    if end >= input.len() || end > CATALOGUE {
         return list_refusal(1, 0, 0, out);
     }
     printed_cell(row, field, which, &input[..end], &input[end + 1..], out)
@@ -339,10 +271,9 @@ fn third_asked(row: u32, field: u32, input: &[u8], out: &mut [u8]) -> usize
     requires { 118 ≤ length out.old }
     ensures { (result ≡ length (asked (cell_behind row field) input.now)) × (out.new ≡ laid out.old 0 (asked (cell_behind row field) input.now)) }
 {
-    let asked = asked_for(input);
-    match asked {
-        Question::None => list_refusal(1, 0, 0, out),
-        Question::Of { number, pages } => { cell_behind(row, field, number, &input[pages..], out) }
+    match asked_for(input) {
+        None => list_refusal(1, 0, 0, out),
+        Some(q) => cell_behind(row, field, q.number, &input[q.pages..], out),
     }
 }
 
@@ -351,31 +282,23 @@ fn field_asked(row: u32, input: &[u8], out: &mut [u8]) -> usize
     requires { 118 ≤ length out.old }
     ensures { (result ≡ length (asked (λ n. asked (cell_behind row n)) input.now)) × (out.new ≡ laid out.old 0 (asked (λ n. asked (cell_behind row n)) input.now)) }
 {
-    let asked = asked_for(input);
-    match asked {
-        Question::None => list_refusal(1, 0, 0, out),
-        Question::Of { number, pages } => third_asked(row, number, &input[pages..], out),
+    match asked_for(input) {
+        None => list_refusal(1, 0, 0, out),
+        Some(q) => third_asked(row, q.number, &input[q.pages..], out),
     }
 }
 
 // What plancell prints for its input: what the cell shows that the input asks for, or the three lines of a refusal. It is laid at the beginning of `out`. The input
 // is the row's number, the field's, and which of three, each with a zero byte behind it, the catalogue's text for the cell, at most 1,000 bytes, a zero byte, and
 // pages as planlist takes them; one that does not ask so is refusal 1. A room of less than 118 bytes is refusal 1, and stays as it was.
-pub fn cell_input(input: &[u8], out: &mut [u8]) -> Printed
+pub fn cell_input(input: &[u8], out: &mut [u8]) -> Option<usize>
     ensures { Prints (cell_answer out.old input.now) out.old result out.new }
 {
     if out.len() < CELL_LINES {
-        return Printed::NoRoom;
+        return None;
     }
-    let asked = asked_for(input);
-    match asked {
-        Question::None => {
-            let length = list_refusal(1, 0, 0, out);
-            Printed::Bytes(length)
-        }
-        Question::Of { number, pages } => {
-            let length = field_asked(number, &input[pages..], out);
-            Printed::Bytes(length)
-        }
+    match asked_for(input) {
+        None => Some(list_refusal(1, 0, 0, out)),
+        Some(q) => Some(field_asked(q.number, &input[q.pages..], out)),
     }
 }

@@ -8,7 +8,7 @@ ghost use Rattle.std.specs.Prelude.{◌+◌, ◌*◌, ◌≤◌, length};
 
 use crate::lines::{bad, bytes, end, number, size, word};
 use crate::number_of;
-use cell::answer::{Answer, Shown, Source, refusal_number, source_number};
+use cell::answer::{NoCell, Shown, Source};
 use cell::{cell_answer, cell_text};
 use std::io::{self, Write};
 
@@ -33,7 +33,7 @@ fn lay_rows(given: &[u8], rows: &mut [u32], n: usize)
 
 // What a cell shows, in numbers.
 fn tell_shown<W: Write>(out: &mut W, s: Shown) -> io::Result<()> {
-    number(out, source_number(s.source))?;
+    number(out, s.source.number())?;
     size(out, s.at)?;
     size(out, s.len)?;
     number(out, s.more as u32)?;
@@ -42,18 +42,15 @@ fn tell_shown<W: Write>(out: &mut W, s: Shown) -> io::Result<()> {
 }
 
 // What a cell shows that is answered; nothing where it is refused.
-fn shown_of(a: Answer) -> Shown {
-    match a {
-        Answer::Shown(s) => s,
-        Answer::NoCell => Shown {
-            source: Source::Neither,
-            at: 0,
-            len: 0,
-            more: false,
-            omitted: 0,
-            zero: false,
-        },
-    }
+fn shown_of(a: Result<Shown, NoCell>) -> Shown {
+    a.unwrap_or(Shown {
+        source: Source::Neither,
+        at: 0,
+        len: 0,
+        more: false,
+        omitted: 0,
+        zero: false,
+    })
 }
 
 // What is answered of a cell.
@@ -69,7 +66,7 @@ fn tell<'a, W: Write>(
 ) -> io::Result<()> {
     let a = cell_answer(rows, count, text, catalogue, row, field, which);
     word(out, b"cell")?;
-    number(out, refusal_number(a))?;
+    number(out, a.err().map_or(0, |e| e.number()))?;
     tell_shown(out, shown_of(a))?;
     end(out)?;
     let shown = cell_text(rows, count, text, catalogue, row, field, which);

@@ -6,7 +6,7 @@
 // After each step it prints: missing MASK COUNT LOWEST. Without a letter, or with another one, it prints: bad
 use crate::lines::{bad, end, number, word};
 use crate::reading::tell_answer;
-use collector::adding::{Answer, add};
+use collector::adding::{Answer, Kept, add};
 use collector::lacks::{lowest_missing, missing_count, missing_numbers};
 use collector::reading::read;
 use collector::store::{Collector, clear};
@@ -25,9 +25,9 @@ fn tell_number<W: Write>(out: &mut W, n: u32) -> io::Result<()> {
 // The answer to a page.
 fn tell_adding<W: Write>(out: &mut W, a: Answer) -> io::Result<()> {
     match a {
-        Answer::Added => tell_number(out, 0),
-        Answer::AlreadyHere => tell_number(out, 20),
-        Answer::Refused(refusal) => tell_answer(out, refusal),
+        Ok(Kept::Added) => tell_number(out, 0),
+        Ok(Kept::AlreadyHere) => tell_number(out, 20),
+        Err(refusal) => tell_answer(out, Some(refusal)),
     }
 }
 
@@ -36,7 +36,7 @@ fn told<W: Write>(out: &mut W, c: Collector) -> io::Result<Collector> {
     word(out, b"missing")?;
     number(out, missing_numbers(c) as u32)?;
     number(out, missing_count(c))?;
-    number(out, lowest_missing(c))?;
+    number(out, lowest_missing(c).unwrap_or(0))?;
     end(out)?;
     Ok(c)
 }
@@ -58,9 +58,9 @@ fn read_all<W: Write>(out: &mut W, c: Collector) -> io::Result<()> {
     let mut rows = [0u32; Plan::NUMBERS];
     let mut text = [0u8; Plan::TEXT];
     let r = read(c, &mut rows, &mut text);
-    tell_answer(out, r.answer)?;
+    tell_answer(out, r.err())?;
     word(out, b"rows")?;
-    number(out, r.plan.rows)?;
+    number(out, r.unwrap_or(Plan::empty()).rows)?;
     end(out)
 }
 

@@ -5,13 +5,13 @@
 //   row, and its 48 numbers, for each row
 //   text, and its bytes, up to the end of the last span
 //   rest kept, or rest changed: whether the rooms behind rows and text still hold the pattern
-ghost use Rattle.std.specs.Prelude.{◌≡◌, ◌+◌, ◌*◌, ◌≤◌, length};
+ghost use Rattle.std.specs.Prelude.{◌+◌, ◌*◌, ◌≤◌, length};
 ghost use Rattle.plan.specs.Numbers.{stride};
 
 use crate::lines::{bytes, end, number, numbers, word};
 use listing::pages::split_pages;
 use plan::{Plan, Span, span_at};
-use reader::answer::{Answer, refusal_number, refusal_page, refusal_place};
+use reader::answer::Refusal;
 use reader::reading::read;
 use std::io::{self, Write};
 
@@ -20,32 +20,18 @@ const ROW_PATTERN: u32 = 2779096485;
 
 const TEXT_PATTERN: u8 = 90;
 
-// The first line.
-pub fn tell_answer<W: Write>(out: &mut W, a: Answer) -> io::Result<()> {
+// The first line: the number, page and place of a refusal, and 0 for each where there is none.
+pub fn tell_answer<W: Write>(out: &mut W, refusal: Option<Refusal>) -> io::Result<()> {
     word(out, b"answer")?;
-    number(out, refusal_number(a))?;
-    number(out, refusal_page(a))?;
-    number(out, refusal_place(a))?;
+    number(out, refusal.map_or(0, |r| r.number()))?;
+    number(out, refusal.map_or(0, |r| r.page()))?;
+    number(out, refusal.map_or(0, |r| r.place()))?;
     end(out)
-}
-
-// The smaller of two numbers.
-fn least(a: usize, b: usize) -> usize
-    ensures { (result ≤ a) × (result ≤ b) }
-{
-    if a < b {
-        return a;
-    }
-    b
 }
 
 // The later of two ends in the text: one, and that of a span.
 fn later(last: usize, s: Span) -> usize {
-    let e = s.at as usize + s.len as usize;
-    if last < e {
-        return e;
-    }
-    last
+    last.max(s.at as usize + s.len as usize)
 }
 
 // The head's spans on a line. Answers where the last of them ends in the text.
@@ -111,8 +97,8 @@ fn tell_rooms<W: Write>(
     count: usize,
     head_end: usize,
 ) -> io::Result<()> {
-    let n = least(count, Plan::ROWS);
-    let last = least(tell_rows(out, rows, n, head_end)?, Plan::TEXT);
+    let n = count.min(Plan::ROWS);
+    let last = tell_rows(out, rows, n, head_end)?.min(Plan::TEXT);
     word(out, b"text")?;
     bytes(out, text, last)?;
     end(out)?;
@@ -133,8 +119,8 @@ fn call<'a, W: Write>(
     let mut rows = [ROW_PATTERN; Plan::NUMBERS];
     let mut text = [TEXT_PATTERN; Plan::TEXT];
     let r = read(input, starts, lens, &mut rows, &mut text);
-    tell_answer(out, r.answer)?;
-    let plan = r.plan;
+    tell_answer(out, r.err())?;
+    let plan = r.unwrap_or(Plan::empty());
     word(out, b"plan")?;
     number(out, plan.patch)?;
     number(out, plan.rows)?;
@@ -164,12 +150,12 @@ fn call_ten<'a, W: Write>(
     lens: &'a [usize; 10],
     count: usize,
 ) -> io::Result<()> {
-    call_first(out, input, starts, lens, least(count, 10))
+    call_first(out, input, starts, lens, count.min(10))
 }
 
 // The command.
 pub fn answer<W: Write>(out: &mut W, given: &[u8]) -> io::Result<()> {
-    let n = least(given.len(), 12609);
+    let n = given.len().min(12609);
     let input = &given[0..n];
     let mut starts = [0usize; 10];
     let mut lens = [0usize; 10];

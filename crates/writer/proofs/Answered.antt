@@ -9,6 +9,8 @@ use native.Mathlib.Omega.{arith}
 use lib.Dec.{leb}
 use lib.ListN.{length}
 use borrow.Author.Tests.{leb-false, le-leb}
+use Rattle.std.specs.Result.{result_err}
+use Rattle.std.specs.Prelude.{Option, Some, None, Result}
 use Rattle.paper.specs.Plan as Said
 use Rattle.paper.specs.Writing.{Written, bad_call, unsound, too_long, written, sound, place13, fresh}
 use Rattle.paper.specs.Cuts.{Cut≤}
@@ -22,10 +24,9 @@ use Rattle.sound.specs.Sound.{numbers_sound, bad_place}
 use Rattle.sound.proofs.SoundLaws.{plan_sound}
 use Rattle.sound.proofs.Causes.{BadAt, bad_place_lem, Fit, fit_decides}
 use Rattle.writer.specs.Promise.{call_fits, answered, Promised}
-use Rattle.writer.specs.declared.answer.Outcome.{Outcome}
-use Rattle.writer.specs.declared.answer.Outcome.TheVariants.{Pages, NoRoom, Unsound, TooLong}
-use Rattle.writer.specs.declared.writing.Writing.{Writing}
-use Rattle.writer.proofs.AnswerLaws.{numbers_once}
+use Rattle.writer.specs.declared.answer.Refusal.{Refusal}
+use Rattle.writer.specs.declared.answer.Refusal.TheVariants.{NoRoom, Unsound, TooLong}
+use Rattle.writer.specs.declared.writing.Pages.{Pages}
 use Rattle.writer.proofs.WritingLaws.{WellMade, well_made}
 
 -- ---- the causes
@@ -41,28 +42,28 @@ pub record SoundCall (out : List ℕ) (p : Plan) (rows text : List ℕ) : Type 0
   pub made : WellMade out p rows
   pub is_sound : numbers_sound text p rows ≡ true
 
--- the cause of each answer, 13 and 14 with their place
-abbrev pub Cause : List ℕ → Plan → List ℕ → List ℕ → Outcome → Type 0
-Cause out p rows text NoRoom = BadCall out p rows
-Cause out p rows text (Unsound i) = WellMade out p rows × BadAt text p rows i
-Cause out p rows text (TooLong i) = SoundCall out p rows text × FirstUncut (show_head text p) (show_rows text p.rows rows) i
-Cause out p rows text Pages = SoundCall out p rows text × Cut≤ (show_head text p) (show_rows text p.rows rows) 9
+-- the cause of each refusal, 13 and 14 with their place, and the cause of pages, which no refusal stands for
+abbrev pub Cause : List ℕ → Plan → List ℕ → List ℕ → Option Refusal → Type 0
+Cause out p rows text (Some NoRoom) = BadCall out p rows
+Cause out p rows text (Some (Unsound i)) = WellMade out p rows × BadAt text p rows i
+Cause out p rows text (Some (TooLong i)) = SoundCall out p rows text × FirstUncut (show_head text p) (show_rows text p.rows rows) i
+Cause out p rows text None = SoundCall out p rows text × Cut≤ (show_head text p) (show_rows text p.rows rows) 9
 
 -- ---- the answer
 
--- what the code answers where document 01 answers so
-abbrev pub outcome : Written → Outcome
-outcome bad_call = NoRoom
-outcome (unsound i) = Unsound i
-outcome (too_long i) = TooLong i
-outcome (written f) = Pages
+-- how the code refuses, if it does, where document 01 answers so
+abbrev pub outcome : Written → Option Refusal
+outcome bad_call = Some NoRoom
+outcome (unsound i) = Some (Unsound i)
+outcome (too_long i) = Some (TooLong i)
+outcome (written f) = None
 
 -- the promise asks for it
-pub outcome_is : (w : Written) (out : List ℕ) (r : Writing) (out' : List ℕ) → Promised w out r out' → r.answer ≡ outcome w
-outcome_is bad_call out r out' P = numbers_once r.answer NoRoom P.answer_is
-outcome_is (unsound i) out r out' P = numbers_once r.answer (Unsound i) P.answer_is
-outcome_is (too_long i) out r out' P = numbers_once r.answer (TooLong i) P.answer_is
-outcome_is (written f) out r out' P = P.answer_is
+pub outcome_is : (w : Written) (out : List ℕ) (r : Result Pages Refusal) (out' : List ℕ) → Promised w out r out' → result_err r ≡ outcome w
+outcome_is bad_call out r out' P = ap result_err P.result_is
+outcome_is (unsound i) out r out' P = ap result_err P.result_is
+outcome_is (too_long i) out r out' P = ap result_err P.result_is
+outcome_is (written f) out r out' P = ap result_err P.result_is
 
 module _ (out : List ℕ) (p : Plan) (rows text : List ℕ) where
   abbrev fits : Bool
@@ -147,13 +148,13 @@ module _ (out : List ℕ) (p : Plan) (rows text : List ℕ) where
   pub pages_are : SoundCall out p rows text → Cut≤ (show_head text p) (show_rows text p.rows rows) 9 → (f : List (List ℕ)) × (fresh shown ≡ written f) × (answered out p rows text ≡ written f)
   pages_are w c = let (f, e) = (written_exactly shown).1 (few_shown w.made, plan_sound text p rows w.is_sound, c) in (f, e, shown_is w.made w.is_sound ∙ e)
 
-  caused : (a : Outcome) → Cause out p rows text a → outcome (answered out p rows text) ≡ a
-  caused NoRoom b = ap outcome (bad_is b)
-  caused (Unsound i) (m, b) = ap outcome (refused_is m i b)
-  caused (TooLong i) (w, u) = ap outcome (shown_is w.made w.is_sound ∙ (fourteen_exactly shown i).1 (few_shown w.made, plan_sound text p rows w.is_sound, u))
-  caused Pages (w, c) = ap outcome (pages_are w c).2
+  caused : (a : Option Refusal) → Cause out p rows text a → outcome (answered out p rows text) ≡ a
+  caused (Some NoRoom) b = ap outcome (bad_is b)
+  caused (Some (Unsound i)) (m, b) = ap outcome (refused_is m i b)
+  caused (Some (TooLong i)) (w, u) = ap outcome (shown_is w.made w.is_sound ∙ (fourteen_exactly shown i).1 (few_shown w.made, plan_sound text p rows w.is_sound, u))
+  caused None (w, c) = ap outcome (pages_are w c).2
 
-  pub exactly : (a : Outcome) → (outcome (answered out p rows text) ≡ a) ↔ Cause out p rows text a
+  pub exactly : (a : Option Refusal) → (outcome (answered out p rows text) ≡ a) ↔ Cause out p rows text a
   exactly a = (λ e. subst (Cause out p rows text) e cause, caused a)
 
   -- ---- the place and the plan shown
@@ -162,7 +163,7 @@ module _ (out : List ℕ) (p : Plan) (rows text : List ℕ) where
   pub fit_place : WellMade out p rows → Fit text p rows → (i : ℕ) → BadAt text p rows i ↔ Breaks shown i
   fit_place m f i = (
     λ b. ((thirteen shown i).0 (sym (fit_is m f) ∙ refused_is m i b)).1,
-    λ b. ((exactly (Unsound i)).0 (ap outcome (fit_is m f ∙ (thirteen shown i).1 (few_shown m, b)))).1,
+    λ b. ((exactly (Some (Unsound i))).0 (ap outcome (fit_is m f ∙ (thirteen shown i).1 (few_shown m, b)))).1,
   )
 
   -- the plan shown has no cut exactly when some row is the first without one, or not even the head alone has one

@@ -11,6 +11,7 @@ use lib.Dec.{eqb, leb}
 use lib.ListN.{length, take, drop, get_or, set, replicate, length-append, length-set, drop_of_length-le}
 use lib.Seq.{drop-cons, get_or-take, length-take-le, take-suc-set}
 use borrow.Author.Tests.{eq-eqb, ne_eqb, le-leb, lt-leb, leb-true, leb-false}
+use Rattle.std.specs.Prelude.{Ok, Err}
 use Rattle.paper.specs.Lists.{if, concat}
 use Rattle.paper.specs.Plan.{Head, Row, Plan}
 use Rattle.paper.specs.Fields.{S}
@@ -104,9 +105,9 @@ module _ {b : ℕ} {ms : List ℕ} {n : ℕ} {es : List ℕ} {full used i : ℕ}
   by_row x e = H.right ∙ ap (λ (r : List ℕ). behind (take full es) (cut_from b (8 - full) i used r)) next ∙ ap (behind (take full es)) e
 
   -- the row fits on the page
-  pub held_kept : (more j : ℕ) → more ≡ used + size_in m → more ≤ 1400 → j ≡ i + 1 → Held b ms n es full more j
+  pub held_kept : (more : ℕ) → more ≡ used + size_in m → more ≤ 1400 → Held b ms n es full more (i + 1)
   unfolding rest
-  held_kept more j e f g = rw (e, g) (record {
+  held_kept more e f = rw e (record {
     within = omega arith;
     few = H.few;
     low = omega arith;
@@ -116,14 +117,14 @@ module _ {b : ℕ} {ms : List ℕ} {n : ℕ} {es : List ℕ} {full used i : ℕ}
   })
 
   -- the row opens the next page
-  pub held_turned : (first j : ℕ) → 1400 < used + size_in m → (full ≡ 8 → ⊥) → first ≡ opens b m + size_in m → first ≤ 1400 → j ≡ i + 1 → Held b ms n (set es full i) (full + 1) first j
+  pub held_turned : (first : ℕ) → 1400 < used + size_in m → (full ≡ 8 → ⊥) → first ≡ opens b m + size_in m → first ≤ 1400 → Held b ms n (set es full i) (full + 1) first (i + 1)
   unfolding rest
-  held_turned first j f z e o g =
+  held_turned first f z e o =
       let few = H.few in
       let long = H.long in
       let k : 8 - full - 1 ≡ 8 - (full + 1) = omega arith in
       let shorter : take (full + 1) (set es full i) ≡ take full es ++ i ∷ [] = rw (add-one full) (take-suc-set es full i (omega arith)) in
-      rw (e, g) (record {
+      rw e (record {
         within = omega arith;
         few = omega arith;
         low = omega arith;
@@ -137,22 +138,22 @@ module _ {b : ℕ} {ms : List ℕ} {n : ℕ} {es : List ℕ} {full used i : ℕ}
   stuck_here : cut_from b (8 - full) i used (m ∷ rest) ≡ stuck (suc i) → cut_of b (take n ms) ≡ stuck (suc i)
   stuck_here e = by_row (stuck (suc i)) e ∙ behind_stuck (take full es) (suc i)
 
-  tells_stuck : (r : PageEnds) → n ≤ 256 → r.place ≡ i + 1 → cut_of b (take n ms) ≡ stuck (suc i) → Tells r (cut_of b (take n ms))
-  tells_stuck r k p e = rw e (omega arith, (omega arith, omega arith))
+  tells_stuck : n ≤ 256 → cut_of b (take n ms) ≡ stuck (suc i) → Tells (Err (i + 1)) (cut_of b (take n ms))
+  tells_stuck k e = rw e (omega arith, (omega arith, omega arith))
 
   -- there is no next page
-  pub held_last : (r : PageEnds) → n ≤ 256 → r.place ≡ i + 1 → 1400 < used + size_in m → full ≡ 8 → Tells r (cut_of b (take n ms))
-  held_last r k p f z = tells_stuck r k p (stuck_here (row_last b (8 - full) i used m rest f (omega arith)))
+  pub held_last : n ≤ 256 → 1400 < used + size_in m → full ≡ 8 → Tells (Err (i + 1)) (cut_of b (take n ms))
+  held_last k f z = tells_stuck k (stuck_here (row_last b (8 - full) i used m rest f (omega arith)))
 
   -- the row is too long for any page
-  pub held_long : (r : PageEnds) (first : ℕ) → n ≤ 256 → r.place ≡ i + 1 → 1400 < used + size_in m → first ≡ opens b m + size_in m → 1400 < first → Tells r (cut_of b (take n ms))
-  held_long r first k p f e o = tells_stuck r k p (stuck_here (row_long b (8 - full) i used m rest f (omega arith)))
+  pub held_long : (first : ℕ) → n ≤ 256 → 1400 < used + size_in m → first ≡ opens b m + size_in m → 1400 < first → Tells (Err (i + 1)) (cut_of b (take n ms))
+  held_long first k f e o = tells_stuck k (stuck_here (row_long b (8 - full) i used m rest f (omega arith)))
 
 -- all rows are placed
 pub held_done : {b : ℕ} {ms : List ℕ} {n : ℕ} {es : List ℕ} {full used i : ℕ} (r : PageEnds) → Held b ms n es full used i → n ≤ length ms → n ≤ i
-    → r.place ≡ 0 → r.pages ≡ full + 1 → r.ends ≡ set es full n → Tells r (cut_of b (take n ms))
+    → r.pages ≡ full + 1 → r.ends ≡ set es full n → Tells (Ok r) (cut_of b (take n ms))
 unfolding cut_from
-held_done {b} {ms} {n} {es} {full} {used} {i} r H l d p c f =
+held_done {b} {ms} {n} {es} {full} {used} {i} r H l d c f =
     let few = H.few in
     let long = H.long in
     let same_end : i ≡ n = omega (arith, H.within) in
@@ -161,7 +162,7 @@ held_done {b} {ms} {n} {es} {full} {used} {i} r H l d p c f =
     H.right ∙ ap (λ (x : List ℕ). behind (take full es) (cut_from b (8 - full) i used x)) gone ∙ behind_ends (take full es) (i ∷ []) ∙ ap (λ (k : ℕ). ends (take full es ++ k ∷ [])) same_end in
     let count : length (take full es ++ n ∷ []) ≡ full + 1 = length-append (take full es) (n ∷ []) ∙ ap (λ (k : ℕ). k + 1) (length-take-le full es (omega arith)) in
     let told : take (length (take full es ++ n ∷ [])) r.ends ≡ take full es ++ n ∷ [] = rw (count, f, add-one full) (take-suc-set es full n (omega arith)) in
-    rw whole (p, (omega arith, (omega arith, told)))
+    rw whole (omega arith, (omega arith, told))
 
 -- ---- rows and their numbers
 

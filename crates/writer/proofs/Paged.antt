@@ -89,10 +89,6 @@ page_front h rs a z =
     ∙ sym (append_assoc o (p ++ (q ++ m)) x ∙ ap (λ (y : List ℕ). o ++ y) (append_assoc p (q ++ m) x ∙ ap (λ (y : List ℕ). p ++ y) (append_assoc q m x)))
     ∙ ap (λ (y : List ℕ). y ++ x) (sym (head_flat h a z))
 
--- and its rows' bytes do not depend on what comes after them
-pub page_parts : (h : Head) (rs : List Row) (a z : ℕ) → page h rs a z ≡ head_text h a z ++ (rows_text false rs [] ++ bytes "</MP>")
-page_parts h rs a z = page_front h rs a z ∙ ap (λ (y : List ℕ). head_text h a z ++ y) (rows_on false rs (closing MP []))
-
 -- ---- the head from its numbers
 
 -- the pieces of MP's start tag, put together anew

@@ -50,10 +50,6 @@ module _ {o o₁ all p : List ℕ} {a n : ℕ} (G : Going o o₁ a n all p) wher
   pub last_on : {o₂ : List ℕ} {m : ℕ} → Fits o a all → Wrote o₁ o₂ n m p → Wrote o o₂ a m all
   last_on f w = going_done f (going_on G p [] (sym (append-nil p)) w) refl
 
--- what is left to write, told in other words
-pub going_as : {o o₁ all rest rest' : List ℕ} {a n : ℕ} → rest ≡ rest' → Going o o₁ a n all rest → Going o o₁ a n all rest'
-going_as {o} {o₁} {all} {rest} {rest'} {a} {n} e G = rw e at G
-
 -- ---- attributes
 
 -- a present value has its attribute
@@ -190,14 +186,6 @@ fields_parted t l (suc m) n first k h =
 -- what is left to spell, from field i of n on
 abbrev pub fields_left : ℕ → ℕ → List ℕ → ℕ → List ℕ → ℕ → List ℕ
 fields_left first n t k l i = fields_text (first + i) (n - i) t (k + 2 * i) l
-
--- before the first field all is left
-pub fields_all : (t l : List ℕ) (first n k : ℕ) → fields_text first n t k l ≡ fields_left first n t k l 0
-fields_all t l first n k =
-    let a : n - 0 ≡ n = omega arith in
-    let b : first + 0 ≡ first = omega arith in
-    let c : k + 2 * 0 ≡ k = omega arith in
-    rw (a, b, c)
 
 -- the next field is spelled first
 pub next_field : (t l : List ℕ) (first n k i : ℕ) → first + n ≤ 52 → i < n

@@ -1,16 +1,22 @@
 -- Stretches: some of the records of a plan: those from one on up to another are sound and show rows as all do; and the first bad record is one of them.
 -- Assumes nothing.
-use mathlib.Core.Path.{◌≡◌, ap, ◌∙◌}
+use mathlib.Core.Path.{◌≡◌, ap, sym, ◌∙◌}
 use mathlib.Core.Bool.{Bool, true, false}
 use mathlib.Core.List.{List, ◌∷◌, ◌++◌}
-use Prim.Native.Nat.{ℕ, zero, suc, ◌+◌, ◌*◌, ◌≤◌}
+use Prim.Native.Nat.{ℕ, zero, suc, ◌+◌, ◌*◌, ◌-◌, ◌≤◌}
 use native.Mathlib.Omega.{arith}
 use lib.ListN.{take, drop}
+use lib.Seq.{slice}
+use Rattle.std.proofs.lemmas.List.{drop-take}
 use Rattle.paper.specs.Lists.{if}
 use Rattle.paper.specs.Plan.{Row}
 use Rattle.plan.specs.Numbers.{show_row, show_rows}
 use Rattle.plan.proofs.Records.{records_behind}
 use Rattle.sound.specs.Sound.{record_sound, first_bad_in}
+
+-- a part of a list, from its place and its length
+pub part_from : (from to : ℕ) (l : List ℕ) → from ≤ to → take (to - from) (drop from l) ≡ slice from to l
+part_from from to l h = let e : from + (to - from) ≡ to = omega arith in sym (drop-take from (to - from) l) ∙ ap (λ (n : ℕ). drop from (take n l)) e
 
 -- the rows that records show, and those that the records behind them show
 pub rows_split : (t : List ℕ) (m n k : ℕ) (rows : List ℕ) → k ≡ m + n → show_rows t k rows ≡ show_rows t m rows ++ show_rows t n (drop (m * 48) rows)

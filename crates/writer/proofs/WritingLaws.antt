@@ -6,9 +6,9 @@ use mathlib.Core.List.{List, [], ◌∷◌, map}
 use Prim.Native.Nat.{ℕ, suc, ◌+◌, ◌*◌, ◌/◌, ◌≤◌, ◌<◌}
 use native.Mathlib.Omega.{arith}
 use lib.Dec.{leb}
-use lib.ListN.{length, take, replicate}
+use lib.ListN.{length, take}
 use borrow.Author.Tests.{leb-true, le-leb, lt-leb}
-use Rattle.paper.specs.Reading.{numbers}
+use Rattle.std.specs.Prelude.{Ok, Err}
 use Rattle.paper.specs.Lists.{if, concat}
 use Rattle.paper.specs.Plan.{Head, Row}
 use Rattle.paper.specs.Plan as Said
@@ -23,12 +23,11 @@ use Rattle.plan.proofs.Shown.{rows_shown}
 use Rattle.room.specs.Laid.{laid}
 use Rattle.sound.proofs.SoundLaws.{no_bad_row, plan_sound}
 use Rattle.sound.specs.Sound.{head_sound, records_sound, first_bad_in}
-use Rattle.writer.specs.Answers.{numbers_of}
 use Rattle.writer.specs.Cutting.{measure_of, Cutting, ends, stuck, cut_of, Tells, Rising, parted}
-use Rattle.writer.specs.Promise.{call_fits, answered, Promised}
-use Rattle.writer.specs.declared.answer.Outcome.TheVariants.{Pages}
+use Rattle.writer.specs.Promise.{call_fits, answered, given, Promised}
+use Rattle.writer.specs.declared.answer.Refusal.{Refusal}
 use Rattle.writer.specs.declared.cut.PageEnds.{PageEnds}
-use Rattle.writer.specs.declared.writing.Writing.{Writing}
+use Rattle.writer.specs.declared.writing.Pages.{Pages}
 use Rattle.writer.proofs.CutLaws.{offsets, CutAs, cut_as}
 use Rattle.writer.proofs.PageLaws.{rising, parted_are}
 
@@ -136,31 +135,32 @@ module _ (out : List ℕ) (p : Plan) (rows text : List ℕ) where
           decided = decides (cut_of (length (page h [] 1 1)) (map measure_of (show_rows text n rows))) (cut_as h (show_rows text n rows))
 
           -- no cut into nine pages
-          pub no_cut : (r : PageEnds) (x : Cutting) → Decides x → Tells r x → (r.place ≡ 0 → ⊥) → answer ≡ too_long r.place
-          no_cut r (ends es) d t z = absurd (z t.0)
-          no_cut r (stuck i) d t z = d ∙ ap too_long (sym t.0)
+          pub no_cut : (i : ℕ) (x : Cutting) → Decides x → Tells (Err i) x → answer ≡ too_long i
+          no_cut i (ends es) d t = absurd t
+          no_cut i (stuck p) d t = d ∙ ap too_long (sym t.0)
 
           -- a cut
-          pub a_cut : (r : PageEnds) (x : Cutting) → Decides x → Tells r x → r.place ≡ 0 → (length (take r.pages r.ends) ≡ r.pages) × ((r.pages ≤ 9) × Paged (take r.pages r.ends))
-          a_cut r (ends es) d t z =
-              let same_ends : take r.pages r.ends ≡ es = rw t.1.0 t.1.1.1 in
-              (rw same_ends (sym t.1.0), (omega (arith, t.1.0, t.1.1.0), subst Paged (sym same_ends) d))
-          a_cut r (stuck i) d t z = absurd (omega (arith, t.0, t.1.0))
+          pub a_cut : (c : PageEnds) (x : Cutting) → Decides x → Tells (Ok c) x → (length (take c.pages c.ends) ≡ c.pages) × ((c.pages ≤ 9) × Paged (take c.pages c.ends))
+          a_cut c (ends es) d t =
+              let same_ends : take c.pages c.ends ≡ es = rw t.0 t.1.1 in
+              (rw same_ends (sym t.0), (omega (arith, t.0, t.1.0), subst Paged (sym same_ends) d))
+          a_cut c (stuck p) d t = absurd t
 
 -- ---- what the promise asks
 
--- a refusal of that number at that place
-abbrev pub Told : ℕ → ℕ → Written → Type 0
-Told n i bad_call = (n ≡ 1) × (i ≡ 0)
-Told n i (unsound r) = (n ≡ 13) × (i ≡ r)
-Told n i (too_long r) = (n ≡ 14) × (i ≡ r)
-Told n i (written f) = ⊥
+-- a refusal
+pub refuses : (A : Written) (e : Refusal) (out : List ℕ) → given A ≡ Err e → Promised A out (Err e) out
+refuses bad_call e out g = record { result_is = sym g; room_is = refl }
+refuses (unsound i) e out g = record { result_is = sym g; room_is = refl }
+refuses (too_long i) e out g = record { result_is = sym g; room_is = refl }
+refuses (written f) e out g = cc
 
-pub refuses : (A : Written) (n i : ℕ) (out : List ℕ) (r : Writing) → Told n i A → numbers_of r.answer ≡ numbers n 0 i → r.pages ≡ 0 → r.lens ≡ replicate 9 0 → Promised A out r out
-refuses bad_call n i out r s a p l = record { answer_is = a ∙ rw (s.0, s.1); pages_are = p; lens_are = l; room_is = refl }
-refuses (unsound j) n i out r s a p l = record { answer_is = a ∙ rw (s.0, s.1); pages_are = p; lens_are = l; room_is = refl }
-refuses (too_long j) n i out r s a p l = record { answer_is = a ∙ rw (s.0, s.1); pages_are = p; lens_are = l; room_is = refl }
-refuses (written f) n i out r s a p l = absurd s
+-- pages are known by their number and their lengths
+pages_same : {r s : Pages} → r.count ≡ s.count → r.lens ≡ s.lens → r ≡ s
+pages_same {r} {s} c l = ap (λ (n : ℕ). told n r.lens) c ∙ ap (told s.count) l
+  where
+    told : ℕ → List ℕ → Pages
+    told n ls = record { count = n; lens = ls }
 
 pages_long : (h : Head) (z a : ℕ) (qs : List (List Row)) → length (pages h z a qs) ≡ length qs
 pages_long h z a [] = refl
@@ -171,13 +171,10 @@ parted_long t rows from [] = refl
 parted_long t rows from (e ∷ es) = ap suc (parted_long t rows e es)
 
 -- pages
-pub writes : (A : Written) (h : Head) (t rows es : List ℕ) (z : ℕ) (out : List ℕ) (r : Writing) (out' : List ℕ) → length es ≡ z → A ≡ written (pages h (length es) 1 (parted t rows 0 es))
-    → r.answer ≡ Pages → r.pages ≡ z → r.lens ≡ padded 9 0 (map length (pages h z 1 (parted t rows 0 es))) → out' ≡ laid out 0 (concat (pages h z 1 (parted t rows 0 es)))
-    → Promised A out r out'
-writes A h t rows es z out r out' k e a p l o =
-    rw e (record { answer_is = a; pages_are = p ∙ sym (pages_long h (length es) 1 (parted t rows 0 es) ∙ parted_long t rows 0 es ∙ k); lens_are = rw k l; room_is = rw k o })
-
--- the place that a cut tells is a row
-pub place_small : (r : PageEnds) (x : Cutting) → Tells r x → r.place ≤ 256
-place_small r (ends es) t = omega (arith, t.0)
-place_small r (stuck i) t = omega (arith, t.0, t.1.1)
+pub writes : (A : Written) (h : Head) (t rows es : List ℕ) (z : ℕ) (out : List ℕ) (r : Pages) (out' : List ℕ) → length es ≡ z → A ≡ written (pages h (length es) 1 (parted t rows 0 es))
+    → r.count ≡ z → r.lens ≡ padded 9 0 (map length (pages h z 1 (parted t rows 0 es))) → out' ≡ laid out 0 (concat (pages h z 1 (parted t rows 0 es)))
+    → Promised A out (Ok r) out'
+writes A h t rows es z out r out' k e p l o =
+    let count : r.count ≡ length (pages h (length es) 1 (parted t rows 0 es)) = p ∙ sym (pages_long h (length es) 1 (parted t rows 0 es) ∙ parted_long t rows 0 es ∙ k) in
+    let lens : r.lens ≡ padded 9 0 (map length (pages h (length es) 1 (parted t rows 0 es))) = rw k l in
+    rw e (record { result_is = ap Ok (pages_same count lens); room_is = rw k o })

@@ -1,6 +1,6 @@
 -- Cutting: the cut of document 01 ("Fresh pages") on numbers: of each row only its size, and whether it is a heading. Serves the code.
 -- Assumes nothing.
-use Rattle.std.specs.Prelude.{◌≡◌, Bool, List, [], ◌∷◌, ℕ, suc, ◌+◌, ◌*◌, ◌-◌, ◌/◌, ◌%◌, ◌≤◌, eqb, leb, length, take}
+use Rattle.std.specs.Prelude.{◌≡◌, Bool, List, [], ◌∷◌, ℕ, suc, ◌+◌, ◌*◌, ◌-◌, ◌/◌, ◌%◌, ◌≤◌, eqb, leb, length, take, Result, IsOkAnd, IsErrAnd}
 use Rattle.paper.specs.Lists.{if}
 use Rattle.paper.specs.Plan.{Row}
 use Rattle.paper.specs.Writing.{heading}
@@ -58,10 +58,10 @@ abbrev pub cut_of : ℕ → List ℕ → Cutting
 cut_of base [] = ends (0 ∷ [])
 cut_of base (m ∷ ms) = cut_from base 8 0 (opens base m) (m ∷ ms)
 
--- what the code gives tells the cut: no place and the pages with their ends, or the place
-abbrev pub Tells : PageEnds → Cutting → Type 0
-Tells r (ends es) = (r.place ≡ 0) × ((r.pages ≡ length es) × ((length es ≤ 9) × (take (length es) r.ends ≡ es)))
-Tells r (stuck p) = (r.place ≡ p) × ((1 ≤ p) × (p ≤ 256))
+-- what the code gives tells the cut: the pages with their ends, or the row that has no place
+abbrev pub Tells : Result PageEnds ℕ → Cutting → Type 0
+Tells r (ends es) = IsOkAnd r (λ c. (c.pages ≡ length es) × ((length es ≤ 9) × (take (length es) c.ends ≡ es)))
+Tells r (stuck p) = IsErrAnd r (λ i. (i ≡ p) × ((1 ≤ p) × (p ≤ 256)))
 
 -- ---- the pages
 

@@ -1,18 +1,17 @@
--- Promise: what writing promises for any call. `Promised` is the interface: it holds the answer, the pages' count and lengths, and the final state of the lent room
--- against what document 01 says of the call.
+-- Promise: what writing promises for any call. `Promised` is the interface: it holds the pages' count and lengths, or the refusal, and the final state of the lent
+-- room against what document 01 says of the call.
 -- Assumes nothing.
-use Rattle.std.specs.Prelude.{◌≡◌, Bool, ◌&&◌, List, map, ℕ, leb, length, replicate}
+use Rattle.std.specs.Prelude.{◌≡◌, Bool, ◌&&◌, List, map, ℕ, leb, length, Result, Ok, Err}
 use Rattle.paper.specs.Lists.{if, concat}
-use Rattle.paper.specs.Reading.{numbers}
 use Rattle.paper.specs.Calls.{row_room, page_room}
 use Rattle.paper.specs.Writing.{Written, bad_call, unsound, too_long, written, fresh}
 use Rattle.room.specs.Laid.{laid}
 use Rattle.plan.specs.Numbers.{rows_lent, show_plan, padded}
 use Rattle.plan.specs.declared.Plan.{Plan}
 use Rattle.sound.specs.Sound.{numbers_sound, bad_place}
-use Rattle.writer.specs.Answers.{numbers_of}
-use Rattle.writer.specs.declared.answer.Outcome.TheVariants.{Pages}
-use Rattle.writer.specs.declared.writing.Writing.{Writing}
+use Rattle.writer.specs.declared.answer.Refusal.{Refusal}
+use Rattle.writer.specs.declared.answer.Refusal.TheVariants.{NoRoom, Unsound, TooLong}
+use Rattle.writer.specs.declared.writing.Pages.{Pages}
 
 -- ---- document 01's answer
 
@@ -28,24 +27,25 @@ answered out p rows text = if (call_fits p.rows (rows_lent (length rows)) (lengt
 
 -- ---- the promise
 
--- a refusal: the answer carries its number and place, there are no pages, and the room is as it was
-pub record Refuses (n i : ℕ) (out : List ℕ) (r : Writing) (out' : List ℕ) : Type 0 where
-  pub answer_is : numbers_of r.answer ≡ numbers n 0 i
-  pub pages_are : r.pages ≡ 0
-  pub lens_are : r.lens ≡ replicate 9 0
-  pub room_is : out' ≡ out
+-- pages in numbers: how many there are, and their nine lengths, 0 for those that are not there
+abbrev pub pages_told : List (List ℕ) → Pages
+pages_told f = record { count = length f; lens = padded 9 0 (map length f) }
 
--- pages: the answer says so, with their number and their lengths, 0 for those that are not there; they lie "one behind the other" from the room's beginning on, and
--- behind them the room is as it was
-pub record Writes (f : List (List ℕ)) (out : List ℕ) (r : Writing) (out' : List ℕ) : Type 0 where
-  pub answer_is : r.answer ≡ Pages
-  pub pages_are : r.pages ≡ length f
-  pub lens_are : r.lens ≡ padded 9 0 (map length f)
-  pub room_is : out' ≡ laid out 0 (concat f)
+-- the result where document 01 answers so: the pages, or the refusal with its number and place (`numbers_of`)
+abbrev pub given : Written → Result Pages Refusal
+given bad_call = Err NoRoom
+given (unsound i) = Err (Unsound i)
+given (too_long i) = Err (TooLong i)
+given (written f) = Ok (pages_told f)
+
+-- the room as handed back: a refusal changes no byte; else the pages lie in it "one behind the other", from its beginning on, and behind them it is as it was
+abbrev pub room_after : Written → List ℕ → List ℕ
+room_after bad_call out = out
+room_after (unsound i) out = out
+room_after (too_long i) out = out
+room_after (written f) out = laid out 0 (concat f)
 
 -- what is promised where document 01 answers so: of the room as lent, the result, and the room as handed back
-abbrev pub Promised : Written → List ℕ → Writing → List ℕ → Type 0
-Promised bad_call out r out' = Refuses 1 0 out r out'
-Promised (unsound i) out r out' = Refuses 13 i out r out'
-Promised (too_long i) out r out' = Refuses 14 i out r out'
-Promised (written f) out r out' = Writes f out r out'
+pub record Promised (w : Written) (out : List ℕ) (r : Result Pages Refusal) (out' : List ℕ) : Type 0 where
+  pub result_is : r ≡ given w
+  pub room_is : out' ≡ room_after w out

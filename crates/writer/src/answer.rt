@@ -1,12 +1,10 @@
-// The answer to a call that writes pages: pages, or a refusal of document 01's table, named for what happened.
+// The refusals of a call that writes pages: three of document 01's table, named for what happened.
 ghost use Rattle.std.specs.Prelude.{◌≡◌};
 ghost use Rattle.writer.specs.Answers.{numbers_of};
 
-// What writing answers. A row is counted from 1; 0 stands for the head.
-#[derive(Clone, Copy)]
-pub enum Outcome {
-    // The plan is written as pages.
-    Pages,
+// Why no pages are written. A row is counted from 1; 0 stands for the head.
+#[derive(Clone, Copy, PartialEq, Eq)]
+pub enum Refusal {
     // The call is not well made: too little room, or a row count above 256 or above the rows lent.
     NoRoom,
     // The plan breaks a rule, holds a value in a form that reading never gives, or points outside its text: at the head, or first at this row.
@@ -15,26 +13,25 @@ pub enum Outcome {
     TooLong(u32),
 }
 
-// The number of a refusal: 1, 13 or 14; 0 for pages.
-pub fn outcome_number(a: Outcome) -> u32
-    ensures { result ≡ (numbers_of a).number }
-{
-    match a {
-        Outcome::Pages => 0,
-        Outcome::NoRoom => 1,
-        Outcome::Unsound(_) => 13,
-        Outcome::TooLong(_) => 14,
+impl Refusal {
+    // The number of the refusal: 1, 13 or 14.
+    pub fn number(self) -> u32
+        ensures { result ≡ (numbers_of self).number }
+    {
+        match self {
+            Refusal::NoRoom => 1,
+            Refusal::Unsound(_) => 13,
+            Refusal::TooLong(_) => 14,
+        }
     }
-}
 
-// The place of a refusal: the row, or 0.
-pub fn outcome_place(a: Outcome) -> u32
-    ensures { result ≡ (numbers_of a).place }
-{
-    match a {
-        Outcome::Pages => 0,
-        Outcome::NoRoom => 0,
-        Outcome::Unsound(row) => row,
-        Outcome::TooLong(row) => row,
+    // The place of the refusal: the row, or 0.
+    pub fn place(self) -> u32
+        ensures { result ≡ (numbers_of self).place }
+    {
+        match self {
+            Refusal::NoRoom => 0,
+            Refusal::Unsound(row) | Refusal::TooLong(row) => row,
+        }
     }
 }

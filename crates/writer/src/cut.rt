@@ -5,13 +5,11 @@ ghost use Rattle.writer.specs.Cutting.{size_in, opens, cut_of, Tells};
 
 use plan::Plan;
 
-// The pages of a cut: how many there are, and for each how many rows are placed where it ends. Where nine pages do not take all rows, `place` is the
-// first row, counted from 1, that has no place, and there are no pages; else it is 0.
-#[derive(Clone, Copy)]
+// The pages of a cut: how many there are, and for each how many rows are placed where it ends.
+#[derive(Clone, Copy, PartialEq, Eq)]
 pub struct PageEnds {
     pub pages: usize,
     pub ends: [usize; 9],
-    pub place: usize,
 }
 
 // What the row of that number adds to a page.
@@ -32,51 +30,36 @@ fn opened(base: usize, m: u32) -> usize
     base + 7
 }
 
-// No cut: this row, counted from 1, has no place.
-fn no_place(row: usize) -> PageEnds
-    ensures { result.place ≡ row }
-{
-    PageEnds {
-        pages: 0,
-        ends: [0usize; 9],
-        place: row,
-    }
-}
-
 // Cuts the first n rows: each page takes as many as fit into 1,400 bytes. The number of a row is twice what it adds to a page, and one more for a heading.
-pub fn cut_rows(base: usize, measures: [u32; Plan::ROWS], n: usize) -> PageEnds
+// Where nine pages do not take all rows, the first row that has no place is told, counted from 1.
+pub fn cut_rows(base: usize, measures: [u32; Plan::ROWS], n: usize) -> Result<PageEnds, usize>
     requires { (base ≤ page_bytes) × (n ≤ 256) }
     ensures { Tells result (cut_of base (take n measures)) }
 {
     let mut ends = [0usize; 9];
     let mut full = 0;
     let mut used = opened(base, measures[0]);
-    let mut i = 0;
-    while i < n {
+    for i in 0..n {
         let size = size_in(measures[i]);
-        let first = opened(base, measures[i]) + size;
         let more = used + size;
-        let j = i + 1;
         if more <= Plan::PAGE {
             used = more;
-            i = j;
         } else {
             if full == 8 {
-                return no_place(j); // Nine pages are begun.
+                return Err(i + 1); // Nine pages are begun.
             }
+            let first = opened(base, measures[i]) + size;
             if first > Plan::PAGE {
-                return no_place(j); // No page is long enough.
+                return Err(i + 1); // No page is long enough.
             }
             ends[full] = i;
             full += 1;
             used = first;
-            i = j;
         }
     }
     ends[full] = n;
-    PageEnds {
+    Ok(PageEnds {
         pages: full + 1,
-        ends: ends,
-        place: 0,
-    }
+        ends,
+    })
 }

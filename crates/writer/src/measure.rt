@@ -71,17 +71,12 @@ pub fn row_measures(rows: &[u32], n: usize, text: &[u8], scratch: &mut [u8]) -> 
     let keys = keys();
     let mut measures = [0u32; Plan::ROWS];
     let mut at = 0;
-    let mut i = 0;
-    while i < n {
+    for i in 0..n {
         let m = row_measure(rows, i, text, &keys, scratch, at);
         measures[i] = m;
         let end = at + size_in(m);
-        let j = i + 1;
         if end <= Plan::PAGES {
             at = end;
-            i = j;
-        } else {
-            i = j;
         }
     }
     measures

@@ -29,14 +29,10 @@ fn lay_dose(out: &mut [u8], at: usize, keys: &[u64], dose: Dose, text: &[u8]) ->
 {
     match dose {
         Dose::Scheme(x) => {
-            let morning = x.morning;
-            let midday = x.midday;
-            let evening = x.evening;
-            let night = x.night;
-            let a = lay_field(out, at, keys[M_M], text, morning);
-            let b = lay_field(out, a, keys[M_D], text, midday);
-            let c = lay_field(out, b, keys[M_V], text, evening);
-            lay_field(out, c, keys[M_H], text, night)
+            let a = lay_field(out, at, keys[M_M], text, x.morning);
+            let b = lay_field(out, a, keys[M_D], text, x.midday);
+            let c = lay_field(out, b, keys[M_V], text, x.evening);
+            lay_field(out, c, keys[M_H], text, x.night)
         }
         Dose::Free(s) => lay_field(out, at, keys[M_T], text, s),
         Dose::Unstated => at,
@@ -75,7 +71,7 @@ fn lay_end(out: &mut [u8], at: usize, keys: &[u64], rows: &[u32], from: usize, t
     if rows[from + 1] == 0 {
         return lay(out, at, b"/>");
     }
-    out[at] = 62;
+    out[at] = b'>';
     let a = lay_substance(out, at + 1, keys, rows, from, text);
     let b = lay_substance(out, a, keys, rows, from + 4, text);
     let c = lay_substance(out, b, keys, rows, from + 8, text);
@@ -164,13 +160,13 @@ fn lay_start(
         b'a',
         b'=',
         b'"',
-        48 + a,
+        b'0' + a,
         b'"',
         b' ',
         b'z',
         b'=',
         b'"',
-        48 + z,
+        b'0' + z,
         b'"',
         b'>',
     ];
@@ -234,13 +230,7 @@ fn lay_front(
 pub fn heads(kind: Kind) -> bool
     ensures { result ≡ is (paper_kind kind) S }
 {
-    match kind {
-        Kind::Heading => true,
-        Kind::Medication => false,
-        Kind::Recipe => false,
-        Kind::Note => false,
-        Kind::Unknown => false,
-    }
+    matches!(kind, Kind::Heading)
 }
 
 // Writes what stands before a row: before a heading the end of the S that is open, before another row the start of an S if none is open.
@@ -248,16 +238,11 @@ fn lay_gap(out: &mut [u8], at: usize, inside: bool, heading: bool) -> usize
     requires { at + length (gap_text inside heading) ≤ length out.old }
     ensures { Wrote out.old out.new at result (gap_text inside heading) }
 {
-    if inside {
-        if heading {
-            return lay(out, at, b"</S>");
-        }
-        return at;
+    match (inside, heading) {
+        (true, true) => lay(out, at, b"</S>"),
+        (false, false) => lay(out, at, b"<S>"),
+        _ => at,
     }
-    if heading {
-        return at;
-    }
-    lay(out, at, b"<S>")
 }
 
 // Writes row i on a page, behind what stands before it; `inside` says that an S is open.
@@ -288,7 +273,7 @@ fn lay_rows(out: &mut [u8], at: usize, placed: &[u8], heading: bool) -> usize
         × (at + length (rows_page heading placed.now) ≤ length out.old) }
     ensures { Wrote out.old out.new at result (rows_page heading placed.now) }
 {
-    if placed.len() == 0 {
+    if placed.is_empty() {
         return lay(out, at, b"</MP>");
     }
     if heading {

@@ -21,11 +21,11 @@ use markup::values;
 use plan::Span;
 use room::lay;
 
-// 0 for a byte of a value that is spelled as it is, else 1.
+// 0 for a byte of a value that is spelled as it is, else 1. Tried with `||`, which misses a bar of speed that `|` meets (docs/BENCH.md).
 fn grows(b: u8) -> u8
     ensures { result ≡ 0 → esc b ≡ b ∷ [] }
 {
-    ((b == 34) | (b == 38) | (b == 60)) as u8
+    ((b == b'"') | (b == b'&') | (b == b'<')) as u8
 }
 
 // Copies the value that stands from `from` up to `to` in the text, and tells whether it is spelled so. No byte ends this early, so that many can be taken at once.
@@ -35,14 +35,10 @@ fn lay_plain(out: &mut [u8], at: usize, text: &[u8], from: usize, to: usize) -> 
         × (out.new ≡ laid out.old at (slice from to text.now)) }
 {
     let mut grown = 0u8;
-    let mut p = at;
-    let mut i = from;
-    while i < to {
-        let b = text[i];
-        out[p] = b;
-        grown = grown | grows(b);
-        p += 1;
-        i += 1;
+    let word = &text[from..to];
+    for (i, b) in word.iter().enumerate() {
+        out[at + i] = *b;
+        grown |= grows(*b);
     }
     grown == 0
 }
@@ -74,11 +70,11 @@ fn lay_attribute(
         × (at + length (quoted (name_of letters) (escape (slice from to text.now))) ≤ length out.old) }
     ensures { Wrote out.old out.new at result (quoted (name_of letters) (escape (slice from to text.now))) }
 {
-    out[at] = 32;
+    out[at] = b' ';
     let a = lay_name(letters, out, at + 1);
     let b = lay(out, a, b"=\"");
     let c = lay_value(out, b, text, from, to);
-    out[c] = 34;
+    out[c] = b'"';
     c + 1
 }
 
@@ -116,15 +112,13 @@ pub fn lay_fields(
     ensures { Wrote out.old out.new at result (fields_text first count text.now from numbers.now) }
 {
     let mut a = at;
-    let mut i = 0;
-    while i < count {
+    for i in 0..count {
         let k = from + 2 * i;
         let s = Span {
             at: numbers[k],
             len: numbers[k + 1],
         };
         a = lay_field(out, a, keys[first + i], text, s);
-        i += 1;
     }
     a
 }
@@ -139,7 +133,7 @@ pub fn lay_number(out: &mut [u8], at: usize, n: u32) -> usize
     }
     let a = lay(out, at, b" p=\"");
     let b = numbers::spell(n, out, a);
-    out[b] = 34;
+    out[b] = b'"';
     b + 1
 }
 

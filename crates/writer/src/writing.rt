@@ -1,5 +1,5 @@
 // Writing: a plan in numbers to its fresh pages in a lent room.
-ghost use Rattle.std.specs.Prelude.{◌≡◌, true, map, ◌*◌, ◌-◌, ◌≤◌, ◌<◌, length, get_or, take, replicate};
+ghost use Rattle.std.specs.Prelude.{◌≡◌, true, map, ◌*◌, ◌-◌, ◌≤◌, ◌<◌, length, get_or, take};
 ghost use Rattle.std.proofs.Math.Seq.{slice};
 ghost use Rattle.paper.specs.Lists.{concat};
 ghost use Rattle.paper.specs.Fields.{S, is};
@@ -13,7 +13,7 @@ ghost use Rattle.writer.specs.Tags.{rows_placed};
 ghost use Rattle.writer.specs.Cutting.{measure_of, sizes_in, Rising, parted};
 ghost use Rattle.writer.specs.Promise.{Promised, answered, call_fits};
 
-use crate::answer::Outcome;
+use crate::answer::Refusal;
 use crate::cut::{cut_rows, size_in};
 use crate::measure::{head_size, row_measures};
 use crate::spelling::{heads, lay_page, lay_people};
@@ -22,36 +22,19 @@ use plan::rooms::pages_fit;
 use plan::{Plan, kind_at};
 use sound::{first_bad, head_sound};
 
-// What writing gives: the answer, the number of pages, and the length of each. A refusal has no pages; lengths of pages that are not there are 0.
-#[derive(Clone, Copy)]
-pub struct Writing {
-    pub answer: Outcome,
-    pub pages: u32,
+// What writing gives: the number of pages, and the length of each. Lengths of pages that are not there are 0.
+#[derive(Clone, Copy, PartialEq, Eq)]
+pub struct Pages {
+    pub count: u32,
     pub lens: [u32; 9],
 }
 
 // Whether the room is enough, and the rows counted are at most 256 and at most those lent. Rows and room are given as slice lengths.
+#[tactic(auto, unfolding(crate::specs::Promise::call_fits))]
 fn call_fits(count: usize, rows: usize, room: usize) -> bool
     ensures { result ≡ call_fits count (rows_lent rows) room }
 {
-    if !pages_fit(room) {
-        return false;
-    }
-    if count > Plan::ROWS {
-        return false;
-    }
-    count <= rows / Plan::STRIDE
-}
-
-// A refusal: no pages.
-fn refusal(answer: Outcome) -> Writing
-    ensures { (result.answer ≡ answer) × ((result.pages ≡ 0) × (result.lens ≡ replicate 9 0)) }
-{
-    Writing {
-        answer: answer,
-        pages: 0,
-        lens: [0u32; 9],
-    }
+    pages_fit(room) && count <= Plan::ROWS && count <= rows / Plan::STRIDE
 }
 
 // How many bytes the rows `from` up to `to` add to a page, from their numbers.
@@ -60,10 +43,9 @@ fn sizes_between(measures: &[u32], from: usize, to: usize) -> usize
     ensures { result ≡ sizes_in (slice from to measures.now) }
 {
     let mut size = 0;
-    let mut i = from;
-    while i < to {
-        size += size_in(measures[i]);
-        i += 1;
+    let part = &measures[from..to];
+    for m in part {
+        size += size_in(*m);
     }
     size
 }
@@ -73,10 +55,7 @@ fn begins_section(rows: &[u32], from: usize, to: usize) -> bool
     requires { (from ≤ to) × (to * stride ≤ length rows.now) }
     ensures { from < to → result ≡ is (paper_kind (code_kind (kind_shown (get_or (record_at rows.now from) 0 0)))) S }
 {
-    if from == to {
-        return false;
-    }
-    heads(kind_at(rows, from))
+    from < to && heads(kind_at(rows, from))
 }
 
 // Lays z pages one behind the other, from the room's beginning on, and gives their lengths. Page k has the rows up to ends[k], and none that an earlier one has.
@@ -107,8 +86,7 @@ fn lay_pages(
     let mut at = 0;
     let mut from = 0;
     let mut begin = 0;
-    let mut k = 0;
-    while k < z {
+    for k in 0..z {
         let to = ends[k];
         let end = begin + sizes_between(&measures, from, to);
         let heading = begins_section(rows, from, to);
@@ -128,44 +106,40 @@ fn lay_pages(
         at = e;
         from = to;
         begin = end;
-        k += 1;
     }
     lens
 }
 
 // Writes the plan that the numbers show as fresh pages into `out`. Refusals in document 01's order: the call (1), numbers that are not sound (13), a plan that
 // nine pages do not take (14). Only where all pass is the room written. Any call may be made: nothing is required of it.
-pub fn write(plan: Plan, rows: &[u32], text: &[u8], out: &mut [u8]) -> Writing
+pub fn write(plan: Plan, rows: &[u32], text: &[u8], out: &mut [u8]) -> Result<Pages, Refusal>
     ensures { Promised (answered out.old plan rows.now text.now) out.old result out.new }
 {
     let n = plan.rows as usize;
     if !call_fits(n, rows.len(), out.len()) {
-        return refusal(Outcome::NoRoom);
+        return Err(Refusal::NoRoom);
     }
     if !head_sound(plan, text) {
-        return refusal(Outcome::Unsound(0));
+        return Err(Refusal::Unsound(0));
     }
-    let bad = first_bad(rows, n, text);
-    if bad != 0 {
-        return refusal(Outcome::Unsound(bad as u32));
+    if let Some(row) = first_bad(rows, n, text) {
+        return Err(Refusal::Unsound(row as u32));
     }
     let mut scratch = [0u8; 20800];
     let base = head_size(plan, text, &mut scratch);
     if base > Plan::PAGE {
-        return refusal(Outcome::TooLong(0));
+        return Err(Refusal::TooLong(0));
     }
     let measures = row_measures(rows, n, text, &mut scratch);
-    let cut = cut_rows(base, measures, n);
-    let place = cut.place;
-    if place != 0 {
-        return refusal(Outcome::TooLong(place as u32));
-    }
-    let ends = cut.ends;
-    let z = cut.pages;
-    let lens = lay_pages(out, plan, rows, n, measures, ends, z, text, &scratch);
-    Writing {
-        answer: Outcome::Pages,
-        pages: z as u32,
-        lens: lens,
+    match cut_rows(base, measures, n) {
+        Err(row) => Err(Refusal::TooLong(row as u32)),
+        Ok(cut) => {
+            let z = cut.pages;
+            let lens = lay_pages(out, plan, rows, n, measures, cut.ends, z, text, &scratch);
+            Ok(Pages {
+                count: z as u32,
+                lens,
+            })
+        }
     }
 }

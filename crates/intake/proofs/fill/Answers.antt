@@ -25,6 +25,6 @@ loop-n-preserved g c =
     let room = length c.loop-n.room - c.loop-n.n in
     let after = put_mid c.loop-n.n room c.loop-n.room c.read.new.buf in
     let front = take-put_mid_below c.loop-n.n room c.loop-n.room c.read.new.buf c.loop-n.n (le_refl _) within in
-    let part = part_lem c.loop-n.n room c.in-Ok.more c.loop-n.room c.read.new.buf within c.in-Ok.ensures.bound.0 in
-    let joined = ap (λ l. take c.loop-n.n c.loop-n.room ++ l) (sym part) ∙ joined_lem c.loop-n.n c.in-Ok.more c.loop-n.room after front in
-    (search rules, search rules, subst (Consumes _ _) joined (Consumes-trans _ _ _ _ _ c.loop-n.invariant.2 c.in-Ok.ensures.bytes.0))
+    let part = part_lem c.loop-n.n room c.in_ok-more.more c.loop-n.room c.read.new.buf within c.in_ok-more.ensures.bound.0 in
+    let joined = ap (λ l. take c.loop-n.n c.loop-n.room ++ l) (sym part) ∙ joined_lem c.loop-n.n c.in_ok-more.more c.loop-n.room after front in
+    (search rules, search rules, subst (Consumes _ _) joined (Consumes-trans _ _ _ _ _ c.loop-n.invariant.2 c.in_ok-more.ensures.bytes.0))
