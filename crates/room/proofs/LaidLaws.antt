@@ -7,8 +7,8 @@ use Prim.Native.Nat.{ℕ, ◌+◌, ◌≤◌, ◌<◌}
 use native.Mathlib.Nat.{add-zero}
 use native.Mathlib.Numerals.{add-one}
 use native.Mathlib.Omega.{arith}
-use lib.ListN.{length, take, drop, set, length-append, length-take, length-drop, take-append-drop}
-use lib.Seq.{take_at, drop_at, drop-drop, set_split, length-take-le}
+use lib.ListN.{length, take, drop, get_or, set, length-append, length-take, length-drop, take-append-drop}
+use lib.Seq.{take_at, drop_at, drop-drop, set_split, length-take-le, take-length, paste, paste-suc}
 use Rattle.room.specs.Laid.{laid}
 
 -- one byte stored is one byte laid
@@ -109,3 +109,14 @@ next_byte {out₀} {out} {at} {n} {x} {all} {t} L h =
 -- nothing is laid yet, of a word from its start on
 pub start_at : (out : List ℕ) (at : ℕ) (all : List ℕ) → at ≤ length out → Laying out out at (at + 0) all all
 start_at out at all h = rw (add-zero at) (start out at all h)
+
+-- ---- entry by entry, of a word of bytes or of numbers
+
+-- the next entry of a word is stored behind those that are laid
+pub next_entry : {A : Type 0} (out : List A) (at : ℕ) (w : List A) (i : ℕ) (z : A) → at + i < length out → i < length w
+    → set (paste out at w i) (at + i) (get_or w i z) ≡ paste out at w (i + 1)
+next_entry out at w i z h k = rw (add-one) (paste-suc out at w i z h k)
+
+-- the whole word is laid
+pub whole_word : {A : Type 0} (out : List A) (at : ℕ) (w : List A) → paste out at w (length w) ≡ laid out at w
+whole_word out at w = rw (take-length w) (append_assoc (take at out) w (drop (at + length w) out))

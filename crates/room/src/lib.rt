@@ -32,17 +32,27 @@ pub fn spells(s: &[u8], from: usize, to: usize, word: &[u8]) -> bool
     requires { (from ≤ to) × (to ≤ length s.now) }
     ensures { result ≡ same (slice from to s.now) word.now }
 {
-    &s[from..to] == word
+    if to - from != word.len() {
+        return false;
+    }
+    for i in 0..word.len() {
+        if s[from + i] != word[i] {
+            return false;
+        }
+    }
+    true
 }
 
-// Writes a word into `out` from `n` on, bytes or numbers, and returns the place behind it. Nothing else in `out` changes.
+// Writes a word into `out` from `n` on, bytes or numbers, and returns the place behind it. Nothing else in `out` changes. It is laid
+// entry by entry: most values of a plan are short or absent, and the library's copy is a call, to a function that the archive for C would need besides.
 pub fn lay<T: Copy>(out: &mut [T], n: usize, word: &[T]) -> usize
     requires { n + length word.now ≤ length out.old }
     ensures { (result ≡ n + length word.now) × (out.new ≡ laid out.old n word.now) }
 {
-    let end = n + word.len();
-    out[n..end].copy_from_slice(word);
-    end
+    for i in 0..word.len() {
+        out[n + i] = word[i];
+    }
+    n + word.len()
 }
 
 // Puts 0 at every place from one up to another. The numbers before stay.
