@@ -70,17 +70,17 @@ or_no true = refl
 or_no false = refl
 
 -- 0 is no number
-none_zero : (j : ℕ) (rs : List Row) (n i : ℕ) → n ≡ 0 → held_from j rs n i ≡ false
+pub none_zero : (j : ℕ) (rs : List Row) (n i : ℕ) → n ≡ 0 → held_from j rs n i ≡ false
 none_zero j [] n i e = refl
 none_zero j (r ∷ rs) n i e = rw (eq-eqb n 0 e, and_no (eqb i j)) (none_zero (suc j) rs n i e)
 
 -- a row before the first
-none_before : (j : ℕ) (rs : List Row) (n i : ℕ) → i < j → held_from j rs n i ≡ false
+pub none_before : (j : ℕ) (rs : List Row) (n i : ℕ) → i < j → held_from j rs n i ≡ false
 none_before j [] n i h = refl
 none_before j (r ∷ rs) n i h = rw (ne_eqb i j (λ e. omega arith)) (none_before (suc j) rs n i (omega arith))
 
 -- a row behind the last
-none_past : (j : ℕ) (rs : List Row) (n i : ℕ) → j + length rs ≤ i → held_from j rs n i ≡ false
+pub none_past : (j : ℕ) (rs : List Row) (n i : ℕ) → j + length rs ≤ i → held_from j rs n i ≡ false
 none_past j [] n i h = refl
 none_past j (r ∷ rs) n i h = rw (ne_eqb i j (λ e. omega arith)) (none_past (suc j) rs n i (omega arith))
 
@@ -94,7 +94,7 @@ shown_holds j (suc n) rows m (suc i) h =
     rw (ne_eqb (j + suc i) j (λ q. omega arith), e, shown_holds (suc j) n (drop 48 rows) m i (le_of_suc-le-suc h), records_behind i rows)
 
 -- a number is held by the row that has it
-held_there : (n : ℕ) (rows : List ℕ) (m i : ℕ) → (m ≡ 0 → ⊥) → 1 ≤ i → i ≤ n → held_at (rows_in n rows) m i ≡ eqb (number_of (row_at rows (i - 1))) m
+pub held_there : (n : ℕ) (rows : List ℕ) (m i : ℕ) → (m ≡ 0 → ⊥) → 1 ≤ i → i ≤ n → held_at (rows_in n rows) m i ≡ eqb (number_of (row_at rows (i - 1))) m
 unfolding rows_in
 held_there n rows m i z a b =
     let e : i ≡ 1 + (i - 1) = omega arith in

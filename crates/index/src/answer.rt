@@ -1,6 +1,6 @@
 // Answers: what building an index and asking it answer. Refusals are document 02's: 1, and 20, "index doesn't match"; their page and place are 0.
 ghost use Rattle.std.specs.Prelude.{◌≡◌};
-ghost use Rattle.index.specs.Answers.{refusal_number};
+ghost use Rattle.index.specs.Answers.{refusal_number, number_of};
 
 // Why a call that builds an index or asks it is refused.
 #[derive(Clone, Copy, PartialEq, Eq)]
@@ -39,4 +39,14 @@ pub enum Nth {
     None,
     // The row.
     Row(u32),
+}
+
+// The number of the refusal in an answer; 0 where nothing is refused.
+pub fn number_of<A>(answer: &Result<A, Refusal>) -> u32
+    ensures { result ≡ number_of answer.now }
+{
+    match answer {
+        Ok(_) => 0,
+        Err(refusal) => refusal.number(),
+    }
 }

@@ -1,7 +1,7 @@
 // The index of package numbers, for the tests.
 use crate::collecting::collector_of;
 use crate::tell_reading;
-use index::answer::{Held, Nth, Refusal};
+use index::answer::{Held, Nth, Refusal, number_of};
 use index::ask::{all, first, nth};
 use index::build::build;
 use index::reading::{Indexed, read, read_collected};
@@ -9,15 +9,11 @@ use plan::Plan;
 
 // What is told of rows that hold a number: how many, and the first. None does where `told` stays as it was.
 fn tell_held(held: Result<Option<Held>, Refusal>, told: &mut [u32; 2]) -> u32 {
-    match held {
-        Ok(Some(held)) => {
-            told[0] = held.count;
-            told[1] = held.first;
-            0
-        }
-        Ok(None) => 0,
-        Err(refusal) => refusal.number(),
+    if let Ok(Some(rows)) = held {
+        told[0] = rows.count;
+        told[1] = rows.first;
     }
+    number_of(&held)
 }
 
 // Builds the index of rows: the number of the refusal, 0 for an index; in `told` how many pairs it has.
@@ -28,13 +24,11 @@ pub extern "C" fn probe_build(
     index: &mut [u32],
     told: &mut [u32; 1],
 ) -> u32 {
-    match build(rows, count, index) {
-        Ok(pairs) => {
-            told[0] = pairs;
-            0
-        }
-        Err(refusal) => refusal.number(),
+    let built = build(rows, count, index);
+    if let Ok(pairs) = built {
+        told[0] = pairs;
     }
+    number_of(&built)
 }
 
 // The first row that holds a number: the number of the refusal; in `told` how many rows hold it, and the first. None does where `told` stays as it was.
@@ -62,22 +56,21 @@ pub extern "C" fn probe_nth<'a>(
     k: u32,
     told: &mut [u32; 2],
 ) -> u32 {
-    match nth(rows, count, index, length, number, k) {
+    let answer = nth(rows, count, index, length, number, k);
+    match answer {
         Ok(Nth::Absent) => {
             told[0] = 0;
-            0
         }
         Ok(Nth::None) => {
             told[0] = 1;
-            0
         }
         Ok(Nth::Row(row)) => {
             told[0] = 2;
             told[1] = row;
-            0
         }
-        Err(refusal) => refusal.number(),
+        Err(_) => {}
     }
+    number_of(&answer)
 }
 
 // All rows that hold a number, laid into `list`; told as by `probe_first`.
