@@ -12,7 +12,7 @@ use borrow.Author.Tests.{eqb-true, leb-true}
 use Rattle.paper.specs.Lists.{same, every}
 use Rattle.paper.specs.Fields.{Kind, code, Field, table, fields_of, tag_name, excluded}
 use Rattle.paper.proofs.Small.{below_at, same_eq, every_at}
-use Rattle.fields.specs.Places.{kind_at, rule_number, no_field, field_at, first_of, count_of, under, ones_of, others_of, key_of}
+use Rattle.fields.specs.Places.{field_count, kind_at, rule_number, no_field, field_at, first_of, count_of, under, ones_of, others_of, key_of}
 use Rattle.fields.specs.Columns.{bit, packed, entry_of, limit_of, part_of, key_column, limit_column, first_column, count_column, child_key_column, child_kind_column, child_first_column, child_count_column, one_column, other_column, pair_first_column, pair_count_column}
 
 -- ---- a field's columns
@@ -131,6 +131,11 @@ other_at e i h l = let within = pairs_within e h in other_entry (entry_of (packe
 pub part_within : (e : ℕ) → e < 10 → first_of (kind_at e) + count_of (kind_at e) ≤ 52
 unfolding first_of count_of kind_at fields_of
 part_within e h = leb-true (first_of (kind_at e) + count_of (kind_at e)) 52 (below_at 10 (λ (n : ℕ). leb (first_of (kind_at n) + count_of (kind_at n)) 52) refl e h)
+
+-- the table has as many fields as is said
+pub table_length : length table ≡ field_count
+unfolding fields_of
+table_length = refl
 
 -- the column of keys is as long as the table
 pub key_length : length key_column ≡ 52

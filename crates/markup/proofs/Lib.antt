@@ -10,3 +10,4 @@ pub mod Decodes
 pub mod Spells
 pub mod WalkLaws
 pub mod Walked
+pub mod RawRoom
