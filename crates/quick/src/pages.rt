@@ -17,7 +17,7 @@ use crate::tags::{kid, name_behind};
 use crate::take::{put, spaces_end, take_attrs};
 use fields::places::{FIELDS, MP};
 use room::byte_or;
-use sheet::state::{State, bars, before, close, enter, finish};
+use sheet::state::{State, bars, before, close, enter_for, finish};
 use tape::exact::Made;
 
 // How many numbers stand before an element's values on the tape.
@@ -137,7 +137,7 @@ fn take_start(
         at: x + 1,
         next: tag.next,
         used: tag.used,
-        st: enter(st, k, s as u16, None, tag.needs, shut),
+        st: enter_for(st, k, s as u16, None, tag.needs, shut),
     })
 }
 
@@ -186,7 +186,7 @@ fn take_root(
         at: tag.at + 1,
         next: tag.next,
         used: tag.used,
-        st: enter(before(), MP, p as u16, None, tag.needs, false),
+        st: enter_for(before(), MP, p as u16, None, tag.needs, false),
     })
 }
 

@@ -13,12 +13,13 @@ use Rattle.paper.specs.declared.Cause.{Cause}
 use Rattle.paper.specs.declared.Cause.TheVariants.{Size, Byte, Malformed, OutOfPlace, Edition, Value, Incomplete}
 use Rattle.paper.specs.Fields.{Kind, code, named, fields_of, rank_of}
 use Rattle.paper.specs.Grammar.{Attr}
-use Rattle.paper.specs.Judging.{Fault, names, slots_of, lower}
+use Rattle.paper.specs.Plan.{Slots}
+use Rattle.paper.specs.Judging.{Fault, names, slots_of, lower, mp_version}
 use Rattle.paper.proofs.Small.{below_at}
 use Rattle.paper.proofs.ByKind.{by_kind_lem}
 use Rattle.fields.specs.Places.{kind_at, under}
 use Rattle.fields.proofs.TableLaws.{code_back}
-use Rattle.sheet.specs.Fold.{St, given, kids_of, kind_under, full, barred, parent, flaw, needs_w, opened}
+use Rattle.sheet.specs.Fold.{St, given, kids_of, kind_under, full, barred, parent, amiss, unfit, flaw, needs_w, opened}
 use Rattle.sheet.specs.Judged.{fault_of}
 use Rattle.sheet.specs.declared.state.Refusal.{Refusal}
 use Rattle.std.specs.Prelude.{Option, None, Some}
@@ -81,3 +82,18 @@ pub opened_by : (s : St) (k i : ℕ) (l : List Attr) (n : ℕ) (needs : Bool) (r
     → record { cur = k; rank = rank; has_p = p; has_a = a; ws = ws; waits = needs; from = from; root = root; best = f } ≡ opened s (kind_at k) i l
 unfolding opened
 opened_by s k i l n needs rank ws from root p a f h x y r P A w m o b = rw (code_back k h, ← x, ← y, r, P, A, w, m, o, b)
+
+-- the fault of an element's own tag by its three tests
+abbrev flaw_tests : Bool → Bool → Bool → ℕ
+flaw_tests a b c = if a 6 (if b 7 (if c 8 9))
+
+-- it is 6, 7, 8 or 9, so the cause of its number has that number
+pub flaw_caused : (k : Kind) (ns : List (List ℕ)) (vs : Slots) (n : ℕ) → n ≡ flaw k ns vs → if (leb 2 n && leb n 8) n 9 ≡ flaw k ns vs
+unfolding flaw
+flaw_caused k ns vs n e = rw e (go (mp_version k vs) (amiss k vs) (unfit k ns vs))
+  where
+    go : (a b c : Bool) → (if (leb 2 (flaw_tests a b c) && leb (flaw_tests a b c) 8) (flaw_tests a b c) 9) ≡ flaw_tests a b c
+    go true b c = refl
+    go false true c = refl
+    go false false true = refl
+    go false false false = refl

@@ -9,7 +9,7 @@ ghost use Rattle.sheet.specs.Judged.{fault_at, is_fine};
 
 use crate::flaws::{flaw_of, needs_w};
 use crate::found::find;
-use crate::state::{Refusal, bars, before, close, enter, finish, kind_under};
+use crate::state::{Refusal, bars, before, close, enter_for, finish, kind_under};
 use fields::lookup::{keys, limits};
 use fields::table::RAWS;
 use marks::first_refused;
@@ -55,7 +55,7 @@ pub fn faults_of(page: &[u8], scratch: &mut [u8]) -> Result<(), Refusal>
                 };
                 let cause = flaw_of(page, kind, &raws, &limits, scratch);
                 let needs = needs_w(page, kind, &raws, scratch);
-                st = enter(st, kind, out.place, cause, needs, shut);
+                st = enter_for(st, kind, out.place, cause, needs, shut);
                 at = i + 1;
             }
         }

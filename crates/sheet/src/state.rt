@@ -1,5 +1,5 @@
 // The state of judging a page: what is known of it behind some of its tags, in a few numbers.
-ghost use Rattle.std.specs.Prelude.{◌≡◌, false, ◌||◌, List, suc, ◌≤◌, ◌<◌, eqb};
+ghost use Rattle.std.specs.Prelude.{◌≡◌, false, ◌&&◌, ◌||◌, List, suc, ◌≤◌, ◌<◌, eqb, leb};
 ghost use Rattle.paper.specs.Lists.{if};
 ghost use Rattle.paper.specs.Causes.{cause_number, flaw_number};
 ghost use Rattle.paper.specs.Fields.{code, rank_of, fields_of};
@@ -184,8 +184,8 @@ pub fn close(st: State) -> State
     }
 }
 
-// The state behind a start tag, and behind the element's end if the tag closes itself.
-pub fn enter(
+// The state behind a start tag, and behind the element's end if the tag closes itself, with the refusal that the element's own values give, if any.
+pub fn enter_for(
     st: State,
     kind: u8,
     place: u16,
@@ -199,6 +199,32 @@ pub fn enter(
 {
     let inner = open(st, kind, place, cause, needs);
     if shut { close(inner) } else { inner }
+}
+
+// The cause that a page's refusal of a number has, none for any other number.
+fn cause_of(number: u8) -> Option<Cause>
+    ensures { flaw_number result ≡ if (leb 2 number && leb number 8) number 9 }
+{
+    match number {
+        2 => Some(Cause::Size),
+        3 => Some(Cause::Byte),
+        4 => Some(Cause::Malformed),
+        5 => Some(Cause::OutOfPlace),
+        6 => Some(Cause::Edition),
+        7 => Some(Cause::Value),
+        8 => Some(Cause::Incomplete),
+        _ => None,
+    }
+}
+
+// The same by the number of that refusal, 9 if there is none.
+#[tactic(auto, using(crate::proofs::StateLaws::flaw_caused))]
+pub fn enter(st: State, kind: u8, place: u16, number: u8, needs: bool, shut: bool) -> State
+    requires { (kind < kind_count) × Sound st × (barred (st_of st) (kind_at kind) ≡ false) }
+    ensures { ((l : List Attr) → number ≡ flaw (kind_at kind) (names l) (slots_of (fields_of (kind_at kind)) l)
+        → needs ≡ needs_w (kind_at kind) (slots_of (fields_of (kind_at kind)) l) → st_of result ≡ left shut (opened (st_of st) (kind_at kind) place l)) × Sound result }
+{
+    enter_for(st, kind, place, cause_of(number), needs, shut)
 }
 
 // The least refusal of the page, at its end, if there is one: 8 at MP if P or A is missing.

@@ -1,5 +1,5 @@
 -- No tag is left, an end tag, or a start tag: 5 if it has no place or an attribute is strange, else the state behind it.
-use Rattle.std.proofs.Common.{◌≡◌, ℕ, ◌+◌, Bool, refl, [], length, sym, ap, ◌∙◌, arith}
+use Rattle.std.proofs.Common.{◌+◌, Bool, refl, [], sym, ap, ◌∙◌, arith}
 use Rattle.paper.specs.Judging.{Fault}
 use Rattle.markup.specs.Walk.{inside_at, tags_at}
 use Rattle.fields.specs.Places.{kind_at}
@@ -81,8 +81,8 @@ needs_w-needs-requires c =
       omega (arith, part_within k.result k.ensures.1, c.find.auto.raws, c.loop-refusal.invariant.lent),
     )
 
-pub enter-st-requires : goal.enter-st-requires
-enter-st-requires c = (c.kind_under-kind.ensures.1, c.loop-refusal.invariant.sound, sym c.bars.ensures ∙ c.if-bars.false)
+pub enter_for-st-requires : goal.enter_for-st-requires
+enter_for-st-requires c = (c.kind_under-kind.ensures.1, c.loop-refusal.invariant.sound, sym c.bars.ensures ∙ c.if-bars.false)
 
 pub loop-refusal-smaller : goal.loop-refusal-smaller
 loop-refusal-smaller c = let e = rw c.in-Some-Start.field-0-is at c.in-Some-Start.ensures in omega (arith, e.1.0, e.1.1, e.1.2)
@@ -97,9 +97,9 @@ loop-refusal-preserved c =
     record {
       inner = omega (arith, e.1.1, e.1.2);
       lent = c.find.auto.raws ∙ c.loop-refusal.invariant.lent;
-      sound = c.enter-st.ensures.1;
+      sound = c.enter_for-st.ensures.1;
       right = c.loop-refusal.invariant.right ∙ t
           ∙ rw (sym c.bars.ensures ∙ c.if-bars.false, strange_not)
           (ap (λ (x : St). judge_fold x (tags_at c.args.page.now (c.in-Some-Start.i + 1)))
-          (ap (λ (b : Bool). left b s) (sym shut) ∙ sym (c.enter-st.ensures.0 l (c.flaw_of-cause.ensures l tells) (c.needs_w-needs.ensures l tells))));
+          (ap (λ (b : Bool). left b s) (sym shut) ∙ sym (c.enter_for-st.ensures.0 l (c.flaw_of-cause.ensures l tells) (c.needs_w-needs.ensures l tells))));
     }
