@@ -94,7 +94,7 @@ pub place_told : (k : ℕ) (ns : List ℕ) (r : ℕ) → place_in k ns ≡ r →
 place_told k ns r h l e = sym (place_in_lem k l ∙ (ap (place_in k) e ∙ h))
 
 -- a number stands before the end just if it is there
-there : (k : ℕ) (ns : List ℕ) → place_in k ns < length ns → among k ns ≡ true
+pub there : (k : ℕ) (ns : List ℕ) → place_in k ns < length ns → among k ns ≡ true
 there k [] h = absurd (omega arith)
 there k (x ∷ ns) h = at (eqb x k) h (there k ns)
   where
@@ -103,7 +103,7 @@ there k (x ∷ ns) h = at (eqb x k) h (there k ns)
     at false h ih = ih (omega arith)
 
 -- and not before the end if it is not there
-not_there : (k : ℕ) (ns : List ℕ) → length ns ≤ place_in k ns → among k ns ≡ false
+pub not_there : (k : ℕ) (ns : List ℕ) → length ns ≤ place_in k ns → among k ns ≡ false
 not_there k [] h = refl
 not_there k (x ∷ ns) h = at (eqb x k) h (not_there k ns)
   where

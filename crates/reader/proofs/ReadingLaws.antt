@@ -193,7 +193,7 @@ module _ (rows text b ss ns : List ℕ) where
         rw (room, call, pages_count b ss ns F.lie, le-leb 1 (length ss) F.some, le-leb (length ss) 9 F.nine)
 
 -- a refusal has a number
-numbered_some : (x : Refusal) → 1 ≤ (numbers_of x).number
+pub numbered_some : (x : Refusal) → 1 ≤ (numbers_of x).number
 numbered_some NoRoom = omega arith
 numbered_some (PageSize k) = omega arith
 numbered_some (ByteRefused k i) = omega arith

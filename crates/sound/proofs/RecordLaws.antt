@@ -214,7 +214,7 @@ unfolding fields_of
 m_missing d vs = refl
 
 -- how many fields M has
-m_count : count_of (kind_at 6) ≡ 14
+pub m_count : count_of (kind_at 6) ≡ 14
 unfolding kind_at count_of fields_of
 m_count = refl
 

@@ -12,6 +12,7 @@ use Rattle.std.specs.Prelude.{Option, Some, None, Result, Ok, Err, IsOk, IsOkAnd
 use Rattle.std.specs.Result.{result_err}
 use Rattle.paper.specs.Plan as Said
 use Rattle.paper.specs.Reading as Paper
+use Rattle.paper.specs.Reading.{numbers}
 use Rattle.paper.specs.Writing as Spelled
 use Rattle.paper.specs.Writing.{Written, written, sound, fresh}
 use Rattle.paper.specs.Cuts.{Cut, Cut≤}
@@ -27,10 +28,12 @@ use Rattle.sound.proofs.SoundLaws.{plan_sound}
 use Rattle.sound.proofs.Causes.{BadAt, bad_place_lem, BadPlan, bad_plan, Fit}
 use Rattle.reader.specs.Promise as Reads
 use Rattle.reader.specs.declared.answer.Refusal as Reader
+use Rattle.writer.specs.Answers.{numbers_of, numbers_told}
 use Rattle.writer.specs.Promise as Writes
 use Rattle.writer.specs.declared.answer.Refusal.{Refusal}
 use Rattle.writer.specs.declared.answer.Refusal.TheVariants.{NoRoom, Unsound, TooLong}
 use Rattle.writer.specs.declared.writing.Pages.{Pages}
+use Rattle.writer.proofs.AnswerLaws.{told_apart, numbers_alike}
 use Rattle.writer.proofs.WritingLaws.{WellMade}
 use Rattle.writer.proofs.Answered.{BadCall, SoundCall, Cause, outcome, outcome_is, shown_is, pages_are, exactly, fit_place, some_place}
 use Rattle.writer.proofs.Unique.{Same, once}
@@ -49,59 +52,78 @@ Wrote out p rows text r out' = Writes.Promised (Writes.answered out p rows text)
 -- ---- one call
 
 module _ (out : List ℕ) (p : Plan) (rows text : List ℕ) (r : Result Pages Refusal) (out' : List ℕ) (W : Wrote out p rows text r out') where
-  -- Each refusal is given exactly where its cause is, and pages, which are no refusal, exactly where theirs is.
-  pub by_cause : (a : Option Refusal) → (result_err r ≡ a) ↔ Cause out p rows text a
-  by_cause a =
-      let is : result_err r ≡ outcome (Writes.answered out p rows text) = outcome_is (Writes.answered out p rows text) out r out' W in
-      (λ e. (exactly out p rows text a).0 (sym is ∙ e), λ c. is ∙ (exactly out p rows text a).1 c)
+  -- Each refusal is given exactly where its cause is, and pages, which are no refusal, exactly where theirs is; the numbers of a result are told exactly where its cause is.
+  pub by_cause : ((s : Result Pages Refusal) → (numbers_told r ≡ numbers_told s) ↔ Cause out p rows text (result_err s)) × ((a : Option Refusal) → (result_err r ≡ a) ↔ Cause out p rows text a)
+  by_cause =
+      let is : result_err r ≡ outcome (Writes.answered out p rows text) = outcome_is (Writes.answered out p rows text) out r out' W in (
+        λ s. (λ e. (exactly out p rows text (result_err s)).0 (sym is ∙ told_apart r s e), λ c. numbers_alike r s (is ∙ (exactly out p rows text (result_err s)).1 c)),
+        λ a. (λ e. (exactly out p rows text a).0 (sym is ∙ e), λ c. is ∙ (exactly out p rows text a).1 c),
+      )
 
-  -- a refusal is given exactly where its cause is
-  refused_for : (x : Refusal) → (r ≡ Err x) ↔ Cause out p rows text (Some x)
-  refused_for x = (λ e. (by_cause (Some x)).0 (ap result_err e), λ c. from r ((by_cause (Some x)).1 c))
+  -- a refusal is given exactly where its cause is, and so are its numbers told
+  refused_for : (x : Refusal) → ((numbers_told r ≡ numbers_of x) ↔ Cause out p rows text (Some x)) × ((r ≡ Err x) ↔ Cause out p rows text (Some x))
+  refused_for x = (by_cause.0 (Err x), (λ e. (by_cause.1 (Some x)).0 (ap result_err e), λ c. from r ((by_cause.1 (Some x)).1 c)))
     where
       from : (q : Result Pages Refusal) → result_err q ≡ Some x → q ≡ Err x
       from (Ok w) e = unequal (cc (e))
       from (Err y) e = cc (e)
 
   -- 1 is given exactly when the room has less than 12,600 bytes, or the row count is above 256 or above the rows lent.
-  pub one : (r ≡ Err NoRoom) ↔ BadCall out p rows
+  pub one : ((numbers_told r ≡ numbers 1 0 0) ↔ BadCall out p rows) × ((r ≡ Err NoRoom) ↔ BadCall out p rows)
   one = refused_for NoRoom
 
   -- 13 is given at place i exactly when the call is well made and i is the first bad place: 0 where the head is bad, else the first bad row, counted from 1, behind a
   -- sound head and sound rows.
-  pub thirteen : (i : ℕ) → (r ≡ Err (Unsound i)) ↔ (WellMade out p rows × BadAt text p rows i)
+  pub thirteen : (i : ℕ) → ((numbers_told r ≡ numbers 13 0 i) ↔ (WellMade out p rows × BadAt text p rows i)) × ((r ≡ Err (Unsound i)) ↔ (WellMade out p rows × BadAt text p rows i))
   thirteen i = refused_for (Unsound i)
+
+  -- what is so at some place exactly when 13 is given at that place is so at some place exactly when the plan is bad
+  some_bad : (G : ℕ → Type 0) → ((i : ℕ) → G i ↔ (WellMade out p rows × BadAt text p rows i)) → ((i : ℕ) × G i) ↔ (WellMade out p rows × BadPlan text p rows)
+  some_bad G h = (
+    λ (i, e). let (m, b) = (h i).0 e in (m, (bad_plan text p rows).0 ((bad_place_lem text p rows i).1 b).0),
+    λ (m, b). let i = bad_place text p rows in (i, (h i).1 (m, (bad_place_lem text p rows i).0 ((bad_plan text p rows).1 b, refl))),
+  )
 
   -- 13 is given, at whatever place, exactly when the call is well made and the plan "breaks a rule above, holds a value in a form that reading never gives, or points
   -- outside its text".
-  pub thirteen_exactly : ((i : ℕ) × (r ≡ Err (Unsound i))) ↔ (WellMade out p rows × BadPlan text p rows)
-  thirteen_exactly = (
-    λ (i, e). let (m, b) = (thirteen i).0 e in (m, (bad_plan text p rows).0 ((bad_place_lem text p rows i).1 b).0),
-    λ (m, b). let i = bad_place text p rows in (i, (thirteen i).1 (m, (bad_place_lem text p rows i).0 ((bad_plan text p rows).1 b, refl))),
+  pub thirteen_exactly : (((i : ℕ) × (numbers_told r ≡ numbers 13 0 i)) ↔ (WellMade out p rows × BadPlan text p rows))
+      × (((i : ℕ) × (r ≡ Err (Unsound i))) ↔ (WellMade out p rows × BadPlan text p rows))
+  thirteen_exactly = (some_bad (λ i. numbers_told r ≡ numbers 13 0 i) (λ i. (thirteen i).0), some_bad (λ i. r ≡ Err (Unsound i)) (λ i. (thirteen i).1))
+
+  -- what is so exactly when 13 is given at i is so, of numbers that fit, exactly when the plan shown breaks a rule at i
+  bad_shown : (G : Type 0) (i : ℕ) → Fit text p rows → G ↔ (WellMade out p rows × BadAt text p rows i) → G ↔ (WellMade out p rows × Breaks (show_plan text p rows) i)
+  bad_shown G i f h = (
+    λ e. let (m, b) = h.0 e in (m, (fit_place out p rows text m f i).0 b),
+    λ (m, b). h.1 (m, (fit_place out p rows text m f i).1 b),
   )
 
   -- Of numbers that point nowhere outside their text, and whose rows hold nothing that their kinds do not have, the plan shown decides: 13 is given at place i exactly
   -- when that plan breaks a rule, first at i.
-  pub thirteen_shown : Fit text p rows → (i : ℕ) → (r ≡ Err (Unsound i)) ↔ (WellMade out p rows × Breaks (show_plan text p rows) i)
-  thirteen_shown f i = (
-    λ e. let (m, b) = (thirteen i).0 e in (m, (fit_place out p rows text m f i).0 b),
-    λ (m, b). (thirteen i).1 (m, (fit_place out p rows text m f i).1 b),
-  )
+  pub thirteen_shown : Fit text p rows → (i : ℕ) → ((numbers_told r ≡ numbers 13 0 i) ↔ (WellMade out p rows × Breaks (show_plan text p rows) i))
+      × ((r ≡ Err (Unsound i)) ↔ (WellMade out p rows × Breaks (show_plan text p rows) i))
+  thirteen_shown f i = (bad_shown (numbers_told r ≡ numbers 13 0 i) i f (thirteen i).0, bad_shown (r ≡ Err (Unsound i)) i f (thirteen i).1)
 
   -- 14 is given at place i exactly when the call is well made, its numbers are sound, and i is the first row such that rows 1..i have no cut, 0 if the head alone is too long.
-  pub fourteen : (i : ℕ) → (r ≡ Err (TooLong i)) ↔ (SoundCall out p rows text × FirstUncut (show_head text p) (show_rows text p.rows rows) i)
+  pub fourteen : (i : ℕ) → ((numbers_told r ≡ numbers 14 0 i) ↔ (SoundCall out p rows text × FirstUncut (show_head text p) (show_rows text p.rows rows) i))
+      × ((r ≡ Err (TooLong i)) ↔ (SoundCall out p rows text × FirstUncut (show_head text p) (show_rows text p.rows rows) i))
   fourteen i = refused_for (TooLong i)
 
-  -- 14 is given, at whatever place, exactly when the call is well made, its numbers are sound, and no cut into at most nine pages of 1,400 bytes exists.
-  pub fourteen_exactly : ((i : ℕ) × (r ≡ Err (TooLong i))) ↔ (SoundCall out p rows text × (Cut≤ (show_head text p) (show_rows text p.rows rows) 9 → ⊥))
-  fourteen_exactly = (
-    λ (i, e). let (w, u) = (fourteen i).0 e in (w, (some_place out p rows text w).0 (i, u)),
-    λ (w, c). let (i, u) = (some_place out p rows text w).1 c in (i, (fourteen i).1 (w, u)),
+  -- what is so at some place exactly when 14 is given at that place is so at some place exactly when no cut exists
+  some_uncut : (G : ℕ → Type 0) → ((i : ℕ) → G i ↔ (SoundCall out p rows text × FirstUncut (show_head text p) (show_rows text p.rows rows) i))
+      → ((i : ℕ) × G i) ↔ (SoundCall out p rows text × (Cut≤ (show_head text p) (show_rows text p.rows rows) 9 → ⊥))
+  some_uncut G h = (
+    λ (i, e). let (w, u) = (h i).0 e in (w, (some_place out p rows text w).0 (i, u)),
+    λ (w, c). let (i, u) = (some_place out p rows text w).1 c in (i, (h i).1 (w, u)),
   )
+
+  -- 14 is given, at whatever place, exactly when the call is well made, its numbers are sound, and no cut into at most nine pages of 1,400 bytes exists.
+  pub fourteen_exactly : (((i : ℕ) × (numbers_told r ≡ numbers 14 0 i)) ↔ (SoundCall out p rows text × (Cut≤ (show_head text p) (show_rows text p.rows rows) 9 → ⊥)))
+      × (((i : ℕ) × (r ≡ Err (TooLong i))) ↔ (SoundCall out p rows text × (Cut≤ (show_head text p) (show_rows text p.rows rows) 9 → ⊥)))
+  fourteen_exactly = (some_uncut (λ i. numbers_told r ≡ numbers 14 0 i) (λ i. (fourteen i).0), some_uncut (λ i. r ≡ Err (TooLong i)) (λ i. (fourteen i).1))
 
   -- Pages are given exactly when the call is well made, its numbers are sound, and a cut into at most nine pages exists.
   pub pages_exactly : IsOk r ↔ (SoundCall out p rows text × Cut≤ (show_head text p) (show_rows text p.rows rows) 9)
-  pages_exactly = (λ z. (by_cause None).0 (to r z), λ c. from r ((by_cause None).1 c))
+  pages_exactly = (λ z. (by_cause.1 None).0 (to r z), λ c. from r ((by_cause.1 None).1 c))
     where
       to : (q : Result Pages Refusal) → IsOk q → result_err q ≡ None
       to (Ok w) z = refl
